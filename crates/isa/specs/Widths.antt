@@ -1,0 +1,25 @@
+-- The four data formats in numbers, Table 3.10 and section 3.2.
+use Prim.Native.Nat.{ℕ}
+use Rattle.isa.specs.declared.Width.{Width}
+use Rattle.isa.specs.declared.Width.the-variants.{B, H, W, D}
+
+-- the bits of an element
+abbrev pub bits : Width → ℕ
+bits B = 8
+bits H = 16
+bits W = 32
+bits D = 64
+
+-- the bytes of an element
+abbrev pub bytes : Width → ℕ
+bytes B = 1
+bytes H = 2
+bytes W = 4
+bytes D = 8
+
+-- the elements of a register of 128 bits
+abbrev pub elements : Width → ℕ
+elements B = 16
+elements H = 8
+elements W = 4
+elements D = 2
