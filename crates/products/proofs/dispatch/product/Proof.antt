@@ -1,0 +1,10 @@
+-- `products::dispatch::product` meets its contract. Each arm hands on what the function of its operation ensures.
+-- Assumes nothing.
+use borrow.Author.Needs.{needs}
+use Rattle.products.proofs.dispatch.product.Statement.{statement}
+use Rattle.products.proofs.dispatch.product.Tie as tie
+
+pub product-spec : {M : Type 1} → statement M
+product-spec =
+    tie.close
+    (tie.spec (λ c. search needs) (λ c κs. search needs) (λ c. search needs) (λ c κs. search needs) (λ c. search needs) (λ c κs. search needs) (λ c. search needs) (λ c κs. search needs) (λ c. search needs) (λ c κs. search needs) (λ c. search needs) (λ c κs. search needs) (λ c. search needs) (λ c κs. search needs) (λ c. rw (c .before .enum-told .given .1) (c .mulv .ensures)) (λ c. rw (c .before .enum-told2 .given .1) (c .maddv .ensures)) (λ c. rw (c .before .enum-told3 .given .1) (c .msubv .ensures)) (λ c. rw (c .before .enum-told4 .given .1) (c .quotient .ensures)) (λ c. rw (c .before .enum-told5 .given .1) (c .quotient2 .ensures)) (λ c. rw (c .before .enum-told6 .given .1) (c .remainder .ensures)) (λ c. rw (c .before .enum-told7 .given .1) (c .remainder2 .ensures)))
