@@ -1,7 +1,7 @@
 -- Single bits, fields, counts and narrower ranges of an element.
 -- Assumes nothing.
 use mathlib.Core.Path.{_≡_, refl, ap, _∙_}
-use Prim.Native.Nat.{ℕ, zero, suc, _+_, _-_, _*_, _/_, _%_, _^_, _≤_, _<_, min, max}
+use Prim.Native.Nat.{ℕ, zero, suc, _+_, _-_, _*_, _/_, _^_, _≤_, _<_, min, max}
 use native.Mathlib.Omega.{arith}
 use native.Mathlib.Nat.{div-add-mod', mod-lt, div-lt-iff-lt-mul, le-div-iff-mul-le}
 use lib.Arith.{digits-lt}
@@ -10,7 +10,7 @@ use lib.Pow.{pow-pos, pow-add, pow-mono}
 use Rattle.element.specs.declared.Reading.the-variants.{Unsigned, Signed}
 use Rattle.element.specs.Value.{top}
 use Rattle.element.specs.Views.{flip}
-use Rattle.element.proofs.Diff.{by-order, diff-pos, diff-neg, diff-to}
+use Rattle.element.proofs.Diff.{diff-pos, diff-neg, diff-to}
 use Rattle.element.proofs.Readings.{value-diff, clamp-view}
 use Rattle.element.proofs.Widths.{Size}
 use Rattle.bits.specs.Places.{bitAt, withBit, over, satTo}

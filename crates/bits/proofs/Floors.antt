@@ -6,7 +6,7 @@ use native.Mathlib.Omega.{arith}
 use native.Mathlib.Nat.{div-add-mod', div-mul-le-self, mod-lt, div-le-self, le-antisymm, lt-of-mul-lt-mul-right, mul-add-div-right, mul-div-cancel, div-lt-iff-lt-mul, mul-le-mul-left, zero-div}
 use borrow.Author.Tests.{ne-eqb}
 use lib.Pow.{pow-pos, pow-add, pow-mono}
-use lib.IntN.{ℤ, pos, negsuc, _+ℤ_}
+use lib.IntN.{ℤ, pos, negsuc}
 use lib.Signed.{shrZ}
 use Rattle.element.specs.declared.Reading.{Reading}
 use Rattle.element.specs.declared.Reading.the-variants.{Unsigned, Signed}

@@ -9,4 +9,5 @@ use Rattle.element.proofs.half.Tie as tie
 pub half-spec : {M : Type 1} → statement M
 half-spec =
     tie.close
-    (tie.spec (λ c κs. search needs) (λ c. omega (arith, size (c .before .args .w))) (λ c κs. omega (arith, size (c .before .args .w))) (λ c. cc))
+    (tie.spec (λ c κs. search needs) (λ c. omega (arith, size (c .before .args .w))) (λ c κs. omega (arith, size (c .before .args .w)))
+    (λ c. cc))

@@ -22,4 +22,5 @@ returns-2 c = let a = c .before .before .before .args in
 pub magnitude-spec : {M : Type 1} → statement M
 magnitude-spec =
     tie.close
-    (tie.spec (λ c κs. search needs) (λ c κs. search needs) (λ c. search needs) (λ c. omega (arith, size (c .before .before .before .args .w))) returns returns-2)
+    (tie.spec (λ c κs. search needs) (λ c κs. search needs) (λ c. search needs)
+    (λ c. omega (arith, size (c .before .before .before .args .w))) returns returns-2)

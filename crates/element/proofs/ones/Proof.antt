@@ -9,4 +9,5 @@ use Rattle.element.proofs.ones.Tie as tie
 pub ones-spec : {M : Type 1} → statement M
 ones-spec =
     tie.close
-    (tie.spec (λ c κs. search needs) (λ c. omega (arith, size (c .before .args .w))) (λ c. omega (arith, size (c .before .args .w))) (λ c. omega (arith, size (c .before .args .w))))
+    (tie.spec (λ c κs. search needs) (λ c. omega (arith, size (c .before .args .w))) (λ c. omega (arith, size (c .before .args .w)))
+    (λ c. omega (arith, size (c .before .args .w))))

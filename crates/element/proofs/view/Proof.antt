@@ -7,4 +7,5 @@ use Rattle.element.proofs.view.Tie as tie
 pub view-spec : {M : Type 1} → statement M
 view-spec =
     tie.close
-    (tie.spec (λ c. search needs) (λ c. search needs) (λ c κs. search needs) (λ c. search needs) (λ c. rw (c .before .enum-told2 .given .1) (c .flip .ensures)))
+    (tie.spec (λ c. search needs) (λ c. search needs) (λ c κs. search needs) (λ c. search needs)
+    (λ c. rw (c .before .enum-told2 .given .1) (c .flip .ensures)))

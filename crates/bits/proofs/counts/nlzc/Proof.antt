@@ -22,6 +22,4 @@ returns c = let start = c .before in let w = start .args .w in
     omega (arith, size w, leading-le (bits w) (start .args .s), leading-narrow (bits w) (start .args .s) (start .pre) (size w .few))
 
 pub nlzc-spec : {M : Type 1} → statement M
-nlzc-spec =
-    tie.close
-    (tie.spec (λ c. omega (arith, leading-le 64 (c .args .s))) (λ c κs. search needs) add-result sub-result returns)
+nlzc-spec = tie.close (tie.spec (λ c. omega (arith, leading-le 64 (c .args .s))) (λ c κs. search needs) add-result sub-result returns)

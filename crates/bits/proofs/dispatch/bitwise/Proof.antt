@@ -20,4 +20,11 @@ returns-6 c = let a = c .before .before .before .before .args in
 pub bitwise-spec : {M : Type 1} → statement M
 bitwise-spec =
     tie.close
-    (tie.spec (λ c. search needs) (λ c κs. search needs) (λ c. search needs) (λ c κs. search needs) (λ c. search needs) (λ c κs. search needs) (λ c. search needs) (λ c κs. search needs) (λ c. search needs) (λ c κs. search needs) (λ c. search needs) (λ c κs. search needs) sub-with-bit (λ c κs. search needs) (λ c. search needs) (λ c κs. search needs) (λ c. search needs) (λ c κs. search needs) (λ c. rw (c .before .enum-told .given .1) (c .sll .ensures)) (λ c. rw (c .before .enum-told2 .given .1) (c .shift-right .ensures)) (λ c. rw (c .before .enum-told3 .given .1) (c .shift-right2 .ensures)) (λ c. rw (c .before .enum-told4 .given .1) (c .clear .ensures)) (λ c. rw (c .before .enum-told5 .given .1) (c .with-bit .ensures)) returns-6 (λ c. rw (c .before .enum-told7 .given .1) (c .binsl .ensures)) (λ c. rw (c .before .enum-told8 .given .1) (c .binsr .ensures)))
+    (tie.spec (λ c. search needs) (λ c κs. search needs) (λ c. search needs) (λ c κs. search needs) (λ c. search needs)
+    (λ c κs. search needs) (λ c. search needs) (λ c κs. search needs) (λ c. search needs) (λ c κs. search needs) (λ c. search needs)
+    (λ c κs. search needs) sub-with-bit (λ c κs. search needs) (λ c. search needs) (λ c κs. search needs) (λ c. search needs)
+    (λ c κs. search needs) (λ c. rw (c .before .enum-told .given .1) (c .sll .ensures))
+    (λ c. rw (c .before .enum-told2 .given .1) (c .shift-right .ensures))
+    (λ c. rw (c .before .enum-told3 .given .1) (c .shift-right2 .ensures)) (λ c. rw (c .before .enum-told4 .given .1) (c .clear .ensures))
+    (λ c. rw (c .before .enum-told5 .given .1) (c .with-bit .ensures)) returns-6
+    (λ c. rw (c .before .enum-told7 .given .1) (c .binsl .ensures)) (λ c. rw (c .before .enum-told8 .given .1) (c .binsr .ensures)))

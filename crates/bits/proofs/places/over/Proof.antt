@@ -22,4 +22,5 @@ returns c = cc
 pub over-spec : {M : Type 1} → statement M
 over-spec =
     tie.close
-    (tie.spec (λ c κs. search needs) (λ c. rw (c .pow2 .ensures) (pow-pos _)) (λ c. fits-le (div-mul-le-self _ _) (c .before .fits .s)) (λ c. rw (c .pow2 .ensures) (pow-pos _)) add-result returns)
+    (tie.spec (λ c κs. search needs) (λ c. rw (c .pow2 .ensures) (pow-pos _)) (λ c. fits-le (div-mul-le-self _ _) (c .before .fits .s))
+    (λ c. rw (c .pow2 .ensures) (pow-pos _)) add-result returns)

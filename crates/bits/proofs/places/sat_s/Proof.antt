@@ -32,4 +32,5 @@ returns c = let start = c .before .before .before .before .before in let w = sta
 pub sat-s-spec : {M : Type 1} → statement M
 sat-s-spec =
     tie.close
-    (tie.spec (λ c κs. search needs) (λ c κs. omega (arith, size (c .before .args .w))) (λ c κs. search needs) sub-between sub-between-2 add-between (λ c κs. search needs) flip-requires-2 returns)
+    (tie.spec (λ c κs. search needs) (λ c κs. omega (arith, size (c .before .args .w))) (λ c κs. search needs) sub-between sub-between-2
+    add-between (λ c κs. search needs) flip-requires-2 returns)

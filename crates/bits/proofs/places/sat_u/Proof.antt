@@ -22,6 +22,4 @@ returns c = let start = c .before .before in let w = start .args .w in
     cc (satU-form (bits w) (size w) (start .args .s) (start .args .m) (start .pre .0) (start .pre .1))
 
 pub sat-u-spec : {M : Type 1} → statement M
-sat-u-spec =
-    tie.close
-    (tie.spec (λ c κs. omega (arith, size (c .args .w))) sub-between add-between (λ c κs. search needs) returns)
+sat-u-spec = tie.close (tie.spec (λ c κs. omega (arith, size (c .args .w))) sub-between add-between (λ c κs. search needs) returns)

@@ -22,4 +22,5 @@ returns-3 c = omega arith
 pub adds-a-spec : {M : Type 1} → statement M
 adds-a-spec =
     tie.close
-    (tie.spec (λ c κs. search needs) (λ c. omega (arith, size (c .before .args .w))) (λ c κs. search needs) (λ c κs. search needs) returns (λ c. search needs) returns-2 returns-3)
+    (tie.spec (λ c κs. search needs) (λ c. omega (arith, size (c .before .args .w))) (λ c κs. search needs) (λ c κs. search needs) returns
+    (λ c. search needs) returns-2 returns-3)

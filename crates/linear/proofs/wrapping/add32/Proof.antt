@@ -8,4 +8,5 @@ use Rattle.linear.proofs.wrapping.add32.Tie as tie
 pub add32-spec : {M : Type 1} → statement M
 add32-spec =
     tie.close
-    (tie.spec (λ c. search needs) (λ c. search needs) (λ c κs. search needs) (λ c. search needs) (λ c. added 32 _ _ (c .wrapping-add-u32 .ensures)))
+    (tie.spec (λ c. search needs) (λ c. search needs) (λ c κs. search needs) (λ c. search needs)
+    (λ c. added 32 _ _ (c .wrapping-add-u32 .ensures)))

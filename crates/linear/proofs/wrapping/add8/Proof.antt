@@ -8,4 +8,5 @@ use Rattle.linear.proofs.wrapping.add8.Tie as tie
 pub add8-spec : {M : Type 1} → statement M
 add8-spec =
     tie.close
-    (tie.spec (λ c. search needs) (λ c. search needs) (λ c κs. search needs) (λ c. search needs) (λ c. added 8 _ _ (c .wrapping-add-u8 .ensures)))
+    (tie.spec (λ c. search needs) (λ c. search needs) (λ c κs. search needs) (λ c. search needs)
+    (λ c. added 8 _ _ (c .wrapping-add-u8 .ensures)))

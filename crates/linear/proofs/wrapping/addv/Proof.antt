@@ -12,4 +12,7 @@ returns-4 c = rw (c .before .enum-told4 .given .1) (c .wrapping-add-u64 .ensures
 pub addv-spec : {M : Type 1} → statement M
 addv-spec =
     tie.close
-    (tie.spec (λ c. search needs) (λ c κs. search needs) (λ c. search needs) (λ c κs. search needs) (λ c. search needs) (λ c κs. search needs) (λ c. search needs) (λ c κs. search needs) (λ c. rw (c .before .enum-told .given .1) (c .add8 .ensures)) (λ c. rw (c .before .enum-told2 .given .1) (c .add16 .ensures)) (λ c. rw (c .before .enum-told3 .given .1) (c .add32 .ensures)) returns-4)
+    (tie.spec (λ c. search needs) (λ c κs. search needs) (λ c. search needs) (λ c κs. search needs) (λ c. search needs)
+    (λ c κs. search needs) (λ c. search needs) (λ c κs. search needs) (λ c. rw (c .before .enum-told .given .1) (c .add8 .ensures))
+    (λ c. rw (c .before .enum-told2 .given .1) (c .add16 .ensures)) (λ c. rw (c .before .enum-told3 .given .1) (c .add32 .ensures))
+    returns-4)

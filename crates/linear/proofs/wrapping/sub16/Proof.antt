@@ -8,4 +8,5 @@ use Rattle.linear.proofs.wrapping.sub16.Tie as tie
 pub sub16-spec : {M : Type 1} → statement M
 sub16-spec =
     tie.close
-    (tie.spec (λ c. search needs) (λ c. search needs) (λ c κs. search needs) (λ c. search needs) (λ c. subtracted 16 _ _ (search needs) (c .wrapping-sub-u16 .ensures)))
+    (tie.spec (λ c. search needs) (λ c. search needs) (λ c κs. search needs) (λ c. search needs)
+    (λ c. subtracted 16 _ _ (search needs) (c .wrapping-sub-u16 .ensures)))

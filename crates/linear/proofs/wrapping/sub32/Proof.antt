@@ -8,4 +8,5 @@ use Rattle.linear.proofs.wrapping.sub32.Tie as tie
 pub sub32-spec : {M : Type 1} → statement M
 sub32-spec =
     tie.close
-    (tie.spec (λ c. search needs) (λ c. search needs) (λ c κs. search needs) (λ c. search needs) (λ c. subtracted 32 _ _ (search needs) (c .wrapping-sub-u32 .ensures)))
+    (tie.spec (λ c. search needs) (λ c. search needs) (λ c κs. search needs) (λ c. search needs)
+    (λ c. subtracted 32 _ _ (search needs) (c .wrapping-sub-u32 .ensures)))

@@ -8,4 +8,5 @@ use Rattle.linear.proofs.wrapping.sub8.Tie as tie
 pub sub8-spec : {M : Type 1} → statement M
 sub8-spec =
     tie.close
-    (tie.spec (λ c. search needs) (λ c. search needs) (λ c κs. search needs) (λ c. search needs) (λ c. subtracted 8 _ _ (search needs) (c .wrapping-sub-u8 .ensures)))
+    (tie.spec (λ c. search needs) (λ c. search needs) (λ c κs. search needs) (λ c. search needs)
+    (λ c. subtracted 8 _ _ (search needs) (c .wrapping-sub-u8 .ensures)))

@@ -14,4 +14,7 @@ returns-4 c = rw (c .before .enum-told4 .given .1)
 pub subv-spec : {M : Type 1} → statement M
 subv-spec =
     tie.close
-    (tie.spec (λ c. search needs) (λ c κs. search needs) (λ c. search needs) (λ c κs. search needs) (λ c. search needs) (λ c κs. search needs) (λ c. search needs) (λ c κs. search needs) (λ c. rw (c .before .enum-told .given .1) (c .sub8 .ensures)) (λ c. rw (c .before .enum-told2 .given .1) (c .sub16 .ensures)) (λ c. rw (c .before .enum-told3 .given .1) (c .sub32 .ensures)) returns-4)
+    (tie.spec (λ c. search needs) (λ c κs. search needs) (λ c. search needs) (λ c κs. search needs) (λ c. search needs)
+    (λ c κs. search needs) (λ c. search needs) (λ c κs. search needs) (λ c. rw (c .before .enum-told .given .1) (c .sub8 .ensures))
+    (λ c. rw (c .before .enum-told2 .given .1) (c .sub16 .ensures)) (λ c. rw (c .before .enum-told3 .given .1) (c .sub32 .ensures))
+    returns-4)

@@ -10,6 +10,4 @@ unfolding magnitude
 returns-2 c = rw (c .before .enum-told2 .given .1) (c .magnitude .ensures)
 
 pub amount-spec : {M : Type 1} → statement M
-amount-spec =
-    tie.close
-    (tie.spec (λ c. search needs) (λ c. search needs) (λ c κs. search needs) (λ c. search needs) returns-2)
+amount-spec = tie.close (tie.spec (λ c. search needs) (λ c. search needs) (λ c κs. search needs) (λ c. search needs) returns-2)

@@ -21,6 +21,4 @@ returns-3 c = let w = c .before .args .w in
     plus-is (bits w) (size w) (c .if1 .left) (omega arith)
 
 pub by-sign-spec : {M : Type 1} → statement M
-by-sign-spec =
-    tie.close
-    (tie.spec (λ c κs. search needs) (λ c. search needs) (λ c. search needs) returns returns-2 returns-3)
+by-sign-spec = tie.close (tie.spec (λ c κs. search needs) (λ c. search needs) (λ c. search needs) returns returns-2 returns-3)

@@ -22,4 +22,5 @@ returns-2 c = cc (quotient-form _ _ _ _ (c .before .before .before .before .befo
 pub quotient-spec : {M : Type 1} → statement M
 quotient-spec =
     tie.close
-    (tie.spec (λ c. quotient-zero _ _ _ _ (c .if1 .taken)) (λ c κs. search needs) (λ c κs. search needs) (λ c κs. search needs) (λ c κs. search needs) div-by-sign by-sign-requires returns-2)
+    (tie.spec (λ c. quotient-zero _ _ _ _ (c .if1 .taken)) (λ c κs. search needs) (λ c κs. search needs) (λ c κs. search needs)
+    (λ c κs. search needs) div-by-sign by-sign-requires returns-2)

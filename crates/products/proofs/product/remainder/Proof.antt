@@ -22,4 +22,5 @@ returns-2 c = cc (remainder-form _ _ _ _ (c .before .before .before .before .if1
 pub remainder-spec : {M : Type 1} → statement M
 remainder-spec =
     tie.close
-    (tie.spec (λ c. remainder-zero _ _ _ _ (c .if1 .taken)) (λ c κs. search needs) (λ c κs. search needs) (λ c κs. search needs) rem-by-sign by-sign-requires returns-2)
+    (tie.spec (λ c. remainder-zero _ _ _ _ (c .if1 .taken)) (λ c κs. search needs) (λ c κs. search needs) (λ c κs. search needs)
+    rem-by-sign by-sign-requires returns-2)
