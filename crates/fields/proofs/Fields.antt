@@ -76,6 +76,14 @@ cut-word (n ∷ ns) (v ∷ vs) e =
     let f : fits ns vs ≡ true = both-right (ltb v (2 ^ n)) (fits ns vs) e in
     rw (high v (total ns) (word-lt ns vs f), mod-eq-of-lt l, cut-above ns v (wordOf ns vs), cut-word ns vs f)
 
+-- each value is below the power of its width
+pub fits-at : (ns vs : List ℕ) → fits ns vs ≡ true → (k : ℕ) → getD vs k 0 < 2 ^ getD ns k 0
+fits-at [] [] e k = omega arith
+fits-at [] (v ∷ vs) e k = absurd (let z : _≡_ {A = ℕ} 0 1 = cc in omega arith)
+fits-at (n ∷ ns) [] e k = absurd (let z : _≡_ {A = ℕ} 0 1 = cc in omega arith)
+fits-at (n ∷ ns) (v ∷ vs) e zero = ltb-true v (2 ^ n) (both-left (ltb v (2 ^ n)) (fits ns vs) e)
+fits-at (n ∷ ns) (v ∷ vs) e (suc k) = fits-at ns vs (both-right (ltb v (2 ^ n)) (fits ns vs) e) k
+
 -- the k-th of two equal lists of fields
 pub item : {xs ys : List ℕ} → xs ≡ ys → (k : ℕ) → getD xs k 0 ≡ getD ys k 0
 item e k = ap (λ (l : List ℕ). getD l k 0) e

@@ -4,7 +4,7 @@ use mathlib.Core.Bool.{Bool, true, false}
 use mathlib.Core.List.{[], _∷_}
 use Prim.Native.Nat.{ℕ, zero, suc, _+_, _-_, _*_, _/_, _%_, _^_, _<_, _≤_}
 use native.Mathlib.Omega.{arith}
-use borrow.Author.Tests.{ltb-true, ltb-false, eqb-true, lt-ltb}
+use borrow.Author.Tests.{ltb-true, ltb-false, eqb-true, eqb-false, lt-ltb}
 use lib.Dec.{eqb, ltb}
 use lib.Pow.{field, shr-shr}
 use Rattle.isa.specs.declared.Width.{Width}
@@ -40,6 +40,7 @@ use Rattle.reading.specs.Reading as reading
 use Rattle.reading.specs.Reading.{readOf}
 use Rattle.writing.specs.Writing as writing
 use Rattle.writing.specs.Writing.{writeOf, layoutOf}
+use Rattle.words.specs.Theorems.{ReadWrite}
 use Rattle.fields.proofs.Fields.{both-left, both-right, pick-elim, cut, word-cut, fits-cut}
 use Rattle.writing.proofs.Shapes.{shaped}
 use Rattle.words.proofs.Tables.{stands, cell-stands, element-stands, element-at, control-stands, control-at, vec-stands, vec-at, two-stands, two-at, branch-stands, branch-at}
@@ -64,7 +65,7 @@ fields : {a b c d e f g a′ b′ c′ d′ e′ f′ g′ : ℕ} → a ≡ a′
     → a ∷ b ∷ c ∷ d ∷ e ∷ f ∷ g ∷ [] ≡ a′ ∷ b′ ∷ c′ ∷ d′ ∷ e′ ∷ f′ ∷ g′ ∷ []
 fields p q r s t u v = λ i. p i ∷ q i ∷ r i ∷ s i ∷ t i ∷ u i ∷ v i ∷ []
 
--- what is to be shown of an answer
+-- what is to be shown of an answer: the major opcode where the word is not read, the round trip where it is
 abbrev pub Back : ℕ → Read → Type 0
 Back w (read.Not Unassigned) = 30 ≡ bits w 31 26
 Back w (read.Not LeftOut) = 30 ≡ bits w 31 26
@@ -203,21 +204,21 @@ module _ (w : ℕ) (h : w < 4294967296) where
   scaled-back : (o : Scaled) → codes.scaledCode o ≡ bits w 5 0 → 0 ≡ bits w 31 26 → Back w (reading.scaledIn o w)
   scaled-back o e major =
       pick-elim (Back w) (eqb (bits w 10 8) 0) _ _
-      (λ z. writes _ w h refl (fields major refl refl refl (sym (eqb-true _ _ z)) refl e)) (λ z. tt)
+      (λ z. writes _ w h refl (fields major refl refl refl (sym (eqb-true _ _ z)) refl e)) (λ z m. omega arith)
 
   special-back : 0 ≡ bits w 31 26 → Back w (reading.readSpecial w)
   special-back major =
       pick-elim (Back w) (eqb (bits w 5 0) 5) _ _ (λ e. scaled-back Lsa (sym (eqb-true _ _ e)) major)
-      (λ l. pick-elim (Back w) (eqb (bits w 5 0) 21) _ _ (λ e. scaled-back Dlsa (sym (eqb-true _ _ e)) major) (λ z. tt))
+      (λ l. pick-elim (Back w) (eqb (bits w 5 0) 21) _ _ (λ e. scaled-back Dlsa (sym (eqb-true _ _ e)) major) (λ z m. omega arith))
 
-  back : Back w (readOf w)
+  pub back : Back w (readOf w)
   unfolding readOf
   back =
       pick-elim (Back w) (eqb (bits w 31 26) 30) _ _ (λ e. msa-back (sym (eqb-true _ _ e)))
-      (λ l. pick-elim (Back w) (eqb (bits w 31 26) 17) _ _
+      (λ no. pick-elim (Back w) (eqb (bits w 31 26) 17) _ _
       (λ e. branch-back (branchAt (bits w 25 21)) (branch-at (bits w 25 21)) (sym (eqb-true _ _ e)))
-      (λ l. pick-elim (Back w) (eqb (bits w 31 26) 0) _ _ (λ e. special-back (sym (eqb-true _ _ e))) (λ z. tt)))
+      (λ l. pick-elim (Back w) (eqb (bits w 31 26) 0) _ _ (λ e. special-back (sym (eqb-true _ _ e))) (λ z m. eqb-false _ _ no (sym m))))
 
 -- each word that reads as an instruction is what the instruction is written as
-pub read-write : (w : ℕ) (i : Instr) → w < 4294967296 → readOf w ≡ read.Instr i → writeOf i ≡ Word w
+pub read-write : ReadWrite
 read-write w i h e = subst (Back w) e (back w h)

@@ -25,6 +25,7 @@ use Rattle.reading.specs.Reading as reading
 use Rattle.reading.specs.Reading.{readOf}
 use Rattle.writing.specs.Writing as writing
 use Rattle.writing.specs.Writing.{writeOf, layoutOf}
+use Rattle.words.specs.Theorems.{WriteRead, WriteBelow}
 use Rattle.fields.proofs.Fields.{both-left, both-right, cut, cut-word, word-lt, item, split}
 use Rattle.writing.proofs.Shapes.{shaped}
 use Rattle.words.proofs.Tables.{three-cell, imm5-cell, bit-cell, indexed-cell, imm8-cell, shf-cell, memory-cell, vec-cell, logic-cell, count-cell, element-row, element-cell, copy-row, copy-cell, each-cell, whole-cell, width-code}
@@ -34,6 +35,7 @@ pub record Fit (i : Instr) (w : ℕ) : Type 0 where
   pub ok : layoutOf i .ok ≡ true
   pub below : w < 4294967296
   pub held : cut (layoutOf i .widths) w ≡ layoutOf i .values
+  pub fitting : fits (layoutOf i .widths) (layoutOf i .values) ≡ true
 
 pick-word : (b : Bool) (v w : ℕ) → pick b (Word v) Refused ≡ Word w → (b ≡ true) × (v ≡ w)
 pick-word true v w e = (refl, cc)
@@ -53,6 +55,7 @@ fit i w e =
       ok = s .0;
       below = rw (← p .1) (rw (shaped i .whole) at (word-lt (l .widths) (l .values) (p .0)));
       held = rw (← p .1) (cut-word (l .widths) (l .values) (p .0));
+      fitting = p .0;
     }
 
 -- ---- a place from its format and index
@@ -217,8 +220,8 @@ reads (instr.Scaled o rd rs rt sa) w f =
     rw (special w (item h 0), scaled o w (item h 6), item h 4, item h 1, item h 2, item h 3, item h 5)
 
 -- each instruction that can be written reads back as itself
-pub write-read : (i : Instr) (w : ℕ) → writeOf i ≡ Word w → readOf w ≡ read.Instr i
+pub write-read : WriteRead
 write-read i w e = reads i w (fit i w e)
 
-pub write-below : (i : Instr) (w : ℕ) → writeOf i ≡ Word w → w < 4294967296
+pub write-below : WriteBelow
 write-below i w e = fit i w e .below
