@@ -2,11 +2,7 @@
 mod classes;
 mod operands;
 pub mod places;
-use cells::Cell;
-use cells::cell_in;
-use cells::tables::branch_at;
-use cells::tables::row_at;
-use cells::tables::vec_at;
+
 use crate::classes::bit_at;
 use crate::classes::branch_in;
 use crate::classes::left_if;
@@ -21,6 +17,11 @@ use crate::operands::minor;
 use crate::operands::vd;
 use crate::operands::vs;
 use crate::places::bit_place;
+use cells::Cell;
+use cells::cell_in;
+use cells::tables::branch_at;
+use cells::tables::row_at;
+use cells::tables::vec_at;
 use isa::Instr;
 use isa::Read;
 use isa::Unread;

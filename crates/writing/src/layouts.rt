@@ -1,4 +1,5 @@
 // The layout of each class, Figures 3-36 to 3-47.
+use crate::Layout;
 use codes::bit_op_code;
 use codes::copied_code;
 use codes::count_code;
@@ -14,7 +15,6 @@ use codes::scaled_code;
 use codes::three_code;
 use codes::width_code;
 use codes::zero_code;
-use crate::Layout;
 use isa::BitOp;
 use isa::Copied;
 use isa::Count;
