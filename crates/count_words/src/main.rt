@@ -61,7 +61,7 @@ fn line(name: &[u8], n: u64) {
     io::write_all(1, b"\n");
 }
 
-fn main() {
+fn count_all() -> Counts {
     let mut c = Counts {
         read: 0,
         left_out: 0,
@@ -73,6 +73,11 @@ fn main() {
         c = counted(c, read_word(word_at(k)));
         k += 1;
     }
+    c
+}
+
+fn main() {
+    let c = count_all();
     line(b"read ", c.read);
     line(b"13 ", c.left_out);
     line(b"12 ", c.unassigned);
