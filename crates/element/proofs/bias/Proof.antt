@@ -1,0 +1,10 @@
+-- `element::bias` meets its contract. Each arm knows the reading.
+-- Assumes nothing.
+use borrow.Author.Needs.{needs}
+use Rattle.element.proofs.bias.Statement.{statement}
+use Rattle.element.proofs.bias.Tie as tie
+
+pub bias-spec : {M : Type 1} → statement M
+bias-spec =
+    tie.close
+    (tie.spec (λ c. search needs) (λ c. search needs) (λ c κs. search needs) (λ c. search needs) (λ c. rw (c .before .enum-told2 .given .1) (c .half .ensures)))
