@@ -13,6 +13,10 @@ build n f (suc m) = build n f m + f m * 2 ^ (n * m)
 abbrev pub whole : ℕ → (ℕ → ℕ) → ℕ
 whole n f = build n f (128 / n)
 
+-- the register whose elements g makes of the same-numbered elements of d, s and t
+abbrev pub together : ℕ → (ℕ → ℕ → ℕ → ℕ) → ℕ → ℕ → ℕ → ℕ
+together n g d s t = whole n (λ i. g (element n d i) (element n s i) (element n t i))
+
 -- the register with x, modulo 2^n, for each of its elements
 unfoldable pub filled : ℕ → ℕ → ℕ
 filled n x = whole n (λ _. x % 2 ^ n)

@@ -3,16 +3,16 @@ use mathlib.Core.Path.{refl}
 use borrow.Author.Needs.{needs}
 use native.Mathlib.Nat.{mod-lt}
 use native.Mathlib.Omega.{arith}
-use Rattle.vectors.proofs.Sizes.{shares}
+use Rattle.vectors.proofs.Sizes.{few}
 use Rattle.permute.proofs.slide.Statement.{statement}
 use Rattle.permute.proofs.slide.Tie as tie
 
 rem-t6 : tie.Need-rem-t6
-rem-t6 c = omega (arith, shares (c .before .args .w))
+rem-t6 c = omega (arith, few (c .before .args .w))
 
 arranged-requires : tie.Need-arranged-requires
 arranged-requires c κs =
-    let some = shares (c .before .args .w) in
+    let some = few (c .before .args .w) in
     (mod-lt (c .before .args .c) (omega arith), omega arith, refl)
 
 returns : tie.Need-returns

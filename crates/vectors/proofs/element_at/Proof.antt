@@ -1,9 +1,12 @@
 -- `vectors::element_at` meets its contract. The element stands in one of the words, or past both.
 use borrow.Author.Needs.{needs}
-use mathlib.Core.Path.{sym, _∙_}
+use mathlib.Core.Path.{_≡_, sym, ap, _∙_}
+use Prim.Native.Nat.{_+_, _-_, _/_}
 use native.Mathlib.Omega.{arith}
 use lib.Pow.{pow-pos}
 use Rattle.isa.specs.Widths.{bits}
+use Rattle.memory.specs.Value.{value}
+use Rattle.vectors.specs.Register.{element}
 use Rattle.vectors.proofs.Sizes.{shares}
 use Rattle.vectors.proofs.Wholes.{value-low, value-high, value-beyond}
 use Rattle.vectors.proofs.element_at.Statement.{statement}
@@ -13,18 +16,20 @@ returns : tie.Need-returns
 returns c =
     let a = c .before .before .before .args in
     record {
-      is = c .in-word .ensures .is ∙ sym (value-low (a .w) (record { low = search needs; high = search needs }) (a .i) (omega arith));
+      is = c .in-word .ensures .is ∙ sym (value-low (shares (a .w)) (record { low = search needs; high = search needs }) (a .i) (omega arith));
       below = c .in-word .ensures .below;
     }
 
 returns-2 : tie.Need-returns-2
 returns-2 c =
-    let a = c .before .before .before .before .args in
-    let place = c .before .before .before .per-word .ensures in
+    let before = c .before .before .before in
+    let a = before .before .args in
+    let rest = a .i - before .per-word .result in
+    let place : a .i ≡ 64 / bits (a .w) + rest = omega arith in
     record {
       is =
           c .in-word2 .ensures .is
-          ∙ sym ((rw (← place) at (value-high (a .w) {v = a .v} (record { low = search needs; high = search needs }) (a .i) (omega arith))));
+          ∙ sym (ap (element (bits (a .w)) (value (a .v))) place ∙ value-high (shares (a .w)) (record { low = search needs; high = search needs }) rest);
       below = c .in-word2 .ensures .below;
     }
 
@@ -32,7 +37,7 @@ returns-3 : tie.Need-returns-3
 returns-3 c =
     let a = c .before .before .before .args in
     record {
-      is = sym (value-beyond (a .w) (record { low = search needs; high = search needs }) (a .i) (omega (arith, shares (a .w))));
+      is = sym (value-beyond (shares (a .w)) (record { low = search needs; high = search needs }) (a .i) (omega (arith, shares (a .w))));
       below = pow-pos (bits (a .w));
     }
 

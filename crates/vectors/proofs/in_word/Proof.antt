@@ -5,16 +5,16 @@ use native.Mathlib.Omega.{arith}
 use Rattle.element.proofs.Widths.{size}
 use Rattle.isa.specs.Widths.{bits}
 use Rattle.vectors.proofs.ElementLaws.{element-below}
-use Rattle.vectors.proofs.Sizes.{inside}
+use Rattle.vectors.proofs.Sizes.{shares, inside}
 use Rattle.vectors.specs.Register.{element}
 use Rattle.vectors.proofs.in_word.Statement.{statement}
 use Rattle.vectors.proofs.in_word.Tie as tie
 
 mul-low : tie.Need-mul-low
-mul-low c = let start = c .before in rw (c .count .ensures) (omega (arith, inside (start .args .w) (start .args .i) (start .pre)))
+mul-low c = let start = c .before in rw (c .count .ensures) (omega (arith, inside (shares (start .args .w)) (start .args .i) (start .pre)))
 
 shr-low : tie.Need-shr-low
-shr-low c = let start = c .before in rw (c .count .ensures) (omega (arith, inside (start .args .w) (start .args .i) (start .pre), size (start .args .w)))
+shr-low c = let start = c .before in rw (c .count .ensures) (omega (arith, inside (shares (start .args .w)) (start .args .i) (start .pre), size (start .args .w)))
 
 returns : tie.Need-returns
 unfolding element

@@ -6,6 +6,7 @@ use lib.Pow.{pow-pos}
 use Rattle.isa.specs.Widths.{bits}
 use Rattle.memory.proofs.Values.{is-register}
 use Rattle.vectors.specs.Register.{filled}
+use Rattle.vectors.proofs.Sizes.{shares}
 use Rattle.vectors.proofs.Wholes.{whole-words}
 use Rattle.vectors.proofs.spread.Statement.{statement}
 use Rattle.vectors.proofs.spread.Tie as tie
@@ -18,7 +19,7 @@ unfolding filled
 returns c =
     let a = c .before .before .args in
     is-register (record { low = search needs; high = search needs })
-    (whole-words (a .w) _ _ _ (rw (← c .before .low .ensures) (c .spread-word .ensures)) (rw (← c .before .low .ensures) (c .spread-word .ensures)))
+    (whole-words (shares (a .w)) _ _ _ (rw (← c .before .low .ensures) (c .spread-word .ensures)) (rw (← c .before .low .ensures) (c .spread-word .ensures)))
 
 pub spread-spec : {M : Type 1} → statement M
 spread-spec = tie.close (tie.spec (λ c κs. search needs) spread-word-requires returns)

@@ -5,15 +5,15 @@ use mathlib.Core.Path.{refl}
 use native.Mathlib.Omega.{arith}
 use lib.Pow.{pow-pos}
 use Rattle.permute.specs.Permute.{chosenByControl}
-use Rattle.vectors.proofs.Sizes.{shares}
+use Rattle.vectors.proofs.Sizes.{few}
 use Rattle.permute.proofs.choice.by_control.Statement.{statement}
 use Rattle.permute.proofs.choice.by_control.Tie as tie
 
 mul-both : tie.Need-mul-both
-mul-both c = omega (arith, shares (c .before .before .before .args .w))
+mul-both c = omega (arith, few (c .before .before .before .args .w))
 
 rem-both : tie.Need-rem-both
-rem-both c = omega (arith, shares (c .before .before .before .args .w))
+rem-both c = omega (arith, few (c .before .before .before .args .w))
 
 returns : tie.Need-returns
 unfolding chosenByControl

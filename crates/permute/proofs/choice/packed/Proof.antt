@@ -2,15 +2,15 @@
 use borrow.Author.Needs.{needs}
 use native.Mathlib.Omega.{arith}
 use Rattle.permute.specs.Permute.{packed}
-use Rattle.vectors.proofs.Sizes.{shares}
+use Rattle.vectors.proofs.Sizes.{few}
 use Rattle.permute.proofs.choice.packed.Statement.{statement}
 use Rattle.permute.proofs.choice.packed.Tie as tie
 
 side-requires : tie.Need-side-requires
-side-requires c κs = omega (arith, shares (c .before .args .w))
+side-requires c κs = omega (arith, few (c .before .args .w))
 
 pack-place-requires : tie.Need-pack-place-requires
-pack-place-requires c κs = (omega (arith, shares (c .before .before .args .w)), search needs, search needs, search needs)
+pack-place-requires c κs = (omega (arith, few (c .before .before .args .w)), search needs, search needs, search needs)
 
 returns : tie.Need-returns
 unfolding packed
