@@ -6,8 +6,10 @@ use native.Mathlib.Omega.{arith}
 use native.Mathlib.Decide.{decLe}
 use lib.ListN.{length}
 use Rattle.isa.specs.declared.Vreg.{Vreg}
-use Rattle.memory.specs.Bytes.{part, number, bytesOf, AreBytes}
+use Rattle.memory.specs.Bytes.{part, replaced, number, bytesOf, AreBytes}
 use Rattle.memory.specs.File.{registerAt, withRegister}
+use Rattle.memory.specs.Value.{value, register}
+use Rattle.memory.proofs.Values.{bytesOf-register}
 use Rattle.memory.proofs.Parts.{length-part, length-replaced, part-replaced, part-before, part-after}
 use Rattle.memory.proofs.Numbers.{length-bytesOf, number-below, part-bytes, number-bytesOf}
 
@@ -15,6 +17,11 @@ pub registerAt-below : (file : List ℕ) (r : Vreg) → AreBytes file → length
 unfolding registerAt
 registerAt-below file r h long small =
     rw (length-part file (16 * r .0) 16 (omega arith)) at (number-below (part file (16 * r .0) 16) (part-bytes file (16 * r .0) 16 h))
+
+-- what is written of the register of x is x
+pub withRegister-register : (file : List ℕ) (r : Vreg) (x : ℕ) → withRegister file r (value (register x)) ≡ withRegister file r x
+unfolding withRegister
+withRegister-register file r x = ap (replaced file (16 * r .0)) (bytesOf-register x)
 
 module _ (file : List ℕ) (r : Vreg) (x : ℕ) (long : length file ≡ 512) (small : r .0 < 32) where
   fits : 16 * r .0 + length (bytesOf 16 x) ≤ length file

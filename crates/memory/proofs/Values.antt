@@ -5,6 +5,8 @@ use native.Mathlib.Nat.{add-comm, mod-lt, mod-eq-of-lt}
 use lib.Arith.{digits-lt}
 use lib.Pow.{pow-pos, mod-pow-add}
 use lib.Pow as pow
+use Rattle.memory.specs.Bytes.{bytesOf}
+use Rattle.memory.proofs.Numbers.{bytesOf-low}
 use Rattle.memory.specs.declared.Register.{Register}
 use Rattle.memory.specs.Value.{value, register, Holds}
 
@@ -26,6 +28,10 @@ value-register x = add-comm (x % 2 ^ 64) (x / 2 ^ 64 % 2 ^ 64 * 2 ^ 64) ∙ sym 
 
 pub value-exact : {x : ℕ} → x < 2 ^ 128 → value (register x) ≡ x
 value-exact {x} h = value-register x ∙ mod-eq-of-lt h
+
+-- the sixteen bytes of the register of x are those of x
+pub bytesOf-register : (x : ℕ) → bytesOf 16 (value (register x)) ≡ bytesOf 16 x
+bytesOf-register x = ap (bytesOf 16) (value-register x) ∙ bytesOf-low 16 x
 
 -- two words are the register of their number
 pub register-value : {r : Register} → Words r → r ≡ register (value r)

@@ -46,11 +46,11 @@ same g {t = t} {d′ = d′} {s′ = s′} p q r = ap₂ (λ d s. g d s t) p q �
 -- what is made of the same-numbered elements of three registers
 module _ (n : ℕ) (g : ℕ → ℕ → ℕ → ℕ) where
   -- a register goes by its two words
-  pub together-words : Shares n → {d s t : Register} → Words d → Words s → Words t → (lo hi : ℕ)
+  pub together-words : Shares n → (d s t : Register) → Words d → Words s → Words t → (lo hi : ℕ)
       → lo ≡ build n (λ i. g (element n (d .low) i) (element n (s .low) i) (element n (t .low) i)) (64 / n)
       → hi ≡ build n (λ i. g (element n (d .high) i) (element n (s .high) i) (element n (t .high) i)) (64 / n)
       → lo + hi * 2 ^ 64 ≡ together n g (value d) (value s) (value t)
-  together-words share hd hs ht lo hi p q =
+  together-words share d s t hd hs ht lo hi p q =
       whole-words share _ lo hi
       (p ∙ build-same n _ _ (64 / n) (λ i h. sym (same g (value-low share hd i h) (value-low share hs i h) (value-low share ht i h))))
       (q ∙ build-same n _ _ (64 / n) (λ i h. sym (same g (value-high share hd i) (value-high share hs i) (value-high share ht i))))

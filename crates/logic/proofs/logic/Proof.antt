@@ -11,7 +11,7 @@ returns : tie.Need-returns
 returns c =
     let a = c .before .before .args in
     is-register (record { low = search needs; high = search needs })
-    (together-words 1 (logicBit (a .op)) shares-bit
+    (together-words 1 (logicBit (a .op)) shares-bit (a .d) (a .s) (a .t)
     (record { low = search needs; high = search needs })
     (record { low = search needs; high = search needs })
     (record { low = search needs; high = search needs })
