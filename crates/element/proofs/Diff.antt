@@ -25,6 +25,11 @@ by-test {A = A} P a b {x} {y} f g = go (ltb a b) refl
     go true e = f (ltb-true a b e)
     go false e = g (ltb-false a b e)
 
+-- either way of a test
+pub cond-below : (b : Bool) {x y m : ℕ} → x < m → y < m → cond b x y < m
+cond-below true h k = h
+cond-below false h k = k
+
 pub by-order : {P : Type 0} (a b : ℕ) → (a < b → P) → (b ≤ a → P) → P
 by-order {P} a b f g = go (ltb a b) refl
   where

@@ -1,11 +1,11 @@
 -- What holds of each of the four widths, and of their halves.
 -- Assumes nothing.
 use mathlib.Core.Path.{_≡_, refl, ap, _∙_}
-use Prim.Native.Nat.{ℕ, zero, suc, _+_, _-_, _*_, _/_, _^_, _≤_, _<_}
+use Prim.Native.Nat.{ℕ, zero, suc, _+_, _-_, _*_, _/_, _%_, _^_, _≤_, _<_}
 use native.Mathlib.Omega.{arith}
-use native.Mathlib.Nat.{pow-suc}
+use native.Mathlib.Nat.{mod-mod, pow-suc}
 use lib.Dec.{lit≤, lit<}
-use lib.Pow.{pow-pos, pow-mono}
+use lib.Pow.{pow-pos, pow-mono, mod-mod-pow}
 use Rattle.isa.specs.declared.Width.{Width}
 use Rattle.isa.specs.declared.Width.the-variants.{B, H, W, D}
 use Rattle.isa.specs.Widths.{bits}
@@ -46,3 +46,10 @@ half-size B = record { part = sized 4 (lit< tt) (lit≤ tt); whole = refl; room 
 half-size H = record { part = sized 8 (lit< tt) (lit≤ tt); whole = refl; room = lit≤ tt }
 half-size W = record { part = sized 16 (lit< tt) (lit≤ tt); whole = refl; room = lit≤ tt }
 half-size D = record { part = sized 32 (lit< tt) (lit≤ tt); whole = refl; room = lit≤ tt }
+
+-- the low bits of an element are those of the low 64 bits
+pub low-low : (w : Width) (x : ℕ) → x % 2 ^ 64 % 2 ^ bits w ≡ x % 2 ^ bits w
+low-low B x = mod-mod-pow x 56 8
+low-low H x = mod-mod-pow x 48 16
+low-low W x = mod-mod-pow x 32 32
+low-low D x = mod-mod x (2 ^ 64)

@@ -1,0 +1,2 @@
+-- The laws of the operations by number.
+pub mod Below

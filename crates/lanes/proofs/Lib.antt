@@ -1,0 +1,3 @@
+-- The laws of the operations on an element.
+pub mod Below
+pub mod Sums

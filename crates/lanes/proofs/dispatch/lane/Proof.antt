@@ -1,0 +1,10 @@
+-- `lanes::dispatch::lane` meets its contract. Each arm hands on what the function of its kind ensures.
+-- Assumes nothing.
+use borrow.Author.Needs.{needs}
+use Rattle.lanes.proofs.dispatch.lane.Statement.{statement}
+use Rattle.lanes.proofs.dispatch.lane.Tie as tie
+
+pub lane-spec : {M : Type 1} → statement M
+lane-spec =
+    tie.close
+    (tie.spec (λ c. search needs) (λ c κs. search needs) (λ c. search needs) (λ c κs. search needs) (λ c. search needs) (λ c κs. search needs) (λ c. rw (c .before .before .op .given .1) (c .arith .ensures)) (λ c. rw (c .before .before .op2 .given .1) (c .bit-op .ensures)) (λ c. rw (c .before .before .op3 .given .1) (c .count-op .ensures)))

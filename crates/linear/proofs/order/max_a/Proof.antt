@@ -1,0 +1,13 @@
+-- `linear::order::max_a` meets its contract. The test is that of the definition.
+-- Assumes nothing.
+use Rattle.linear.specs.Order.{larger}
+use borrow.Author.Needs.{needs}
+use Rattle.linear.proofs.order.max_a.Statement.{statement}
+use Rattle.linear.proofs.order.max_a.Tie as tie
+
+returns : tie.Need-returns
+unfolding larger
+returns c = cc
+
+pub max-a-spec : {M : Type 1} → statement M
+max-a-spec = tie.close (tie.spec (λ c κs. search needs) (λ c κs. search needs) (λ c κs. search needs) returns)

@@ -1,0 +1,11 @@
+-- `linear::wrapping::add8` meets its contract. The one law over the width: what std wraps is ADDV.
+-- Assumes nothing.
+use Rattle.linear.proofs.Wrapped.{added}
+use borrow.Author.Needs.{needs}
+use Rattle.linear.proofs.wrapping.add8.Statement.{statement}
+use Rattle.linear.proofs.wrapping.add8.Tie as tie
+
+pub add8-spec : {M : Type 1} → statement M
+add8-spec =
+    tie.close
+    (tie.spec (λ c. search needs) (λ c. search needs) (λ c κs. search needs) (λ c. search needs) (λ c. added 8 _ _ (c .wrapping-add-u8 .ensures)))
