@@ -5,8 +5,8 @@ use native.Mathlib.Nat.{lt-of-lt-of-le, mod-lt, mod-eq-of-lt}
 use native.Mathlib.Omega.{arith}
 use lib.Pow.{pow-pos, pow-mono}
 use Rattle.memory.specs.declared.Register.{Register}
-use Rattle.memory.specs.Value.{value}
-use Rattle.memory.proofs.Values.{Words, value-below}
+use Rattle.memory.specs.Value.{value, register}
+use Rattle.memory.proofs.Values.{Words, value-below, value-exact}
 use Rattle.vectors.specs.Register.{element, build, whole, together, filled}
 use Rattle.vectors.proofs.ElementLaws.{element-below, element-low, element-high, element-beyond, element-build, build-below, build-same, build-split, build-element}
 use Rattle.vectors.proofs.Sizes.{Shares, outside}
@@ -69,7 +69,11 @@ module _ (n : ℕ) (g : ℕ → ℕ → ℕ → ℕ) where
         → element n (together n g d s t) i ≡ element n (together n g d′ s′ t′) i
     untouched d s t d′ s′ t′ i h p q r = together-element d s t i h ∙ same g p q r ∙ sym (together-element d′ s′ t′ i h)
 
--- every element of a filled register is the same
+-- a filled register holds its number, and every element of it is the same
+pub value-filled : {n : ℕ} → Shares n → (x : ℕ) → value (register (filled n x)) ≡ filled n x
+unfolding filled
+value-filled {n} share x = value-exact (whole-below share (λ _. x % 2 ^ n) (λ _. mod-lt x (pow-pos n)))
+
 pub element-filled : (n x i : ℕ) → i < 128 / n → element n (filled n x) i ≡ x % 2 ^ n
 unfolding filled
 element-filled n x i h = element-build n (λ _. x % 2 ^ n) (λ _. mod-lt x (pow-pos n)) (128 / n) i h
