@@ -1,0 +1,31 @@
+-- `codes::three_code` meets its contract. Assumes nothing.
+use borrow.Author.Needs.{needs}
+use Rattle.codes.proofs.three_code.Statement.{statement}
+use Rattle.codes.proofs.three_code.Tie as tie
+
+pub three-code-spec : {M : Type 1} → statement M
+three-code-spec =
+    tie.close
+    (tie.spec
+    (λ c. search needs)
+    (λ c κs. search needs)
+    (λ c. search needs)
+    (λ c. search needs)
+    (λ c κs. search needs)
+    (λ c. search needs)
+    (λ c. search needs)
+    (λ c. search needs)
+    (λ c κs. search needs)
+    (λ c. search needs)
+    (λ c. search needs)
+    (λ c. search needs)
+    (λ c. search needs)
+    (λ c. search needs)
+    (λ c. search needs)
+    (λ c κs. search needs)
+    (λ c. search needs)
+    (λ c. rw (c .before .before .x .given .1) (c .arith-code .ensures))
+    (λ c. rw (c .before .before .x2 .given .1) (cc))
+    (λ c. rw (c .before .before .x3 .given .1) (cc))
+    (λ c. search needs)
+    (λ c. rw (c .before .before .x4 .given .1) (cc)))

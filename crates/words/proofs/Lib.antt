@@ -1,0 +1,4 @@
+pub mod Tables
+pub mod ReadWrite
+pub mod WriteRead
+pub mod Answers

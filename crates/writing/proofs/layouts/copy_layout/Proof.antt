@@ -1,0 +1,15 @@
+-- `writing::layouts::copy_layout` meets its contract. Assumes nothing.
+use borrow.Author.Needs.{needs}
+use Rattle.writing.proofs.layouts.copy_layout.Statement.{statement}
+use Rattle.writing.proofs.layouts.copy_layout.Tie as tie
+
+pub copy-layout-spec : {M : Type 1} → statement M
+copy-layout-spec =
+    tie.close
+    (tie.spec
+    (λ c κs. search needs)
+    (λ c κs. search needs)
+    (λ c κs. search needs)
+    (λ c. search needs)
+    (λ c. search needs)
+    (λ c. cc))
