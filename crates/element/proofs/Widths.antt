@@ -30,7 +30,7 @@ bits-below : (n : ℕ) → n < 2 ^ n
 bits-below zero = lit< tt
 bits-below (suc n) = rw (pow-suc 2 n) (omega (arith, bits-below n))
 
-sized : (n : ℕ) → 0 < n → n ≤ 64 → Size n
+pub sized : (n : ℕ) → 0 < n → n ≤ 64 → Size n
 sized n any few =
     let twice : 2 ^ n ≡ top n * 2 = ap (λ x. 2 ^ x) (omega arith) ∙ pow-suc 2 (n - 1) in
     record { some = pow-pos (n - 1); twice = omega arith; room = pow-mono few; any = any; few = few; bits-below = bits-below n }

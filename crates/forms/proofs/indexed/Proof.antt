@@ -1,0 +1,11 @@
+-- `forms::indexed` meets its contract. Each arm is its row of the definition.
+use borrow.Author.Needs.{needs}
+use Rattle.forms.proofs.indexed.Statement.{statement}
+use Rattle.forms.proofs.indexed.Tie as tie
+
+pub indexed-spec : {M : Type 1} → statement M
+indexed-spec =
+    tie.close (tie.spec
+    (λ c. search needs) (λ c κs. search needs) (λ c. search needs) (λ c κs. search needs)
+    (λ c. rw (c .before .enum-told .given .1) (c .slide .ensures))
+    (λ c. rw (c .before .enum-told2 .given .1) (c .splat .ensures)))

@@ -1,0 +1,86 @@
+-- What the operation of each encoding class makes of registers: d, s and t are the old wd, ws and wt, n the bits of the format.
+use Prim.Native.Nat.{ℕ, _/_, _%_}
+use Rattle.isa.specs.declared.Arith.the-variants as arith
+use Rattle.isa.specs.declared.Basic.{Basic}
+use Rattle.isa.specs.declared.Basic.the-variants as basic
+use Rattle.isa.specs.declared.BitOp.{BitOp}
+use Rattle.isa.specs.declared.BitOp.the-variants as bit
+use Rattle.isa.specs.declared.Compare.{Compare}
+use Rattle.isa.specs.declared.Compare.the-variants as compare
+use Rattle.isa.specs.declared.Count.{Count}
+use Rattle.isa.specs.declared.Element.{Element}
+use Rattle.isa.specs.declared.Element.the-variants.{Sldi, Splati, Insve}
+use Rattle.isa.specs.declared.Imm5.{Imm5}
+use Rattle.isa.specs.declared.Imm5.the-variants as imm5
+use Rattle.isa.specs.declared.Indexed.{Indexed}
+use Rattle.isa.specs.declared.Indexed.the-variants.{Sld, Splat}
+use Rattle.isa.specs.declared.Logic.{Logic}
+use Rattle.isa.specs.declared.Three.{Three}
+use Rattle.isa.specs.declared.Three.the-variants as three
+use Rattle.lanes.specs.declared.Lane.the-variants as lane
+use Rattle.element.specs.Value.{signed, wrap}
+use Rattle.vectors.specs.Register.{element, whole, together, filled}
+use Rattle.each.specs.Lanes.{eachLane}
+use Rattle.logic.specs.Logic.{logicBit}
+use Rattle.permute.specs.Permute.{packed, chosenByControl, slidByte, withElement}
+
+abbrev pub threeOf : Three → ℕ → ℕ → ℕ → ℕ → ℕ
+threeOf (three.Arith o) n d s t = eachLane (lane.Arith o) n d s t
+threeOf (three.Bitwise o) n d s t = eachLane (lane.Bit (bit.Bitwise o)) n d s t
+threeOf (three.Rounding o) n d s t = eachLane (lane.Bit (bit.Rounding o)) n d s t
+threeOf (three.Pack o) n d s t = whole n (packed o n s t)
+threeOf three.Vshf n d s t = whole n (chosenByControl n d s t)
+
+-- SLD and SLDI by x columns, and SPLAT and SPLATI of element x, each modulo the element count
+abbrev pub slid : ℕ → ℕ → ℕ → ℕ → ℕ
+slid n d s x = whole 8 (slidByte (128 / n) (x % (128 / n)) d s)
+
+abbrev pub splatted : ℕ → ℕ → ℕ → ℕ
+splatted n s x = filled n (element n s (x % (128 / n)))
+
+abbrev pub indexedOf : Indexed → ℕ → ℕ → ℕ → ℕ → ℕ
+indexedOf Sld n d s x = slid n d s x
+indexedOf Splat n d s x = splatted n s x
+
+abbrev pub elementOf : Element → ℕ → ℕ → ℕ → ℕ → ℕ
+elementOf Sldi n d s i = slid n d s i
+elementOf Splati n d s i = splatted n s i
+elementOf Insve n d s i = whole n (withElement i (element n s 0) n d)
+
+-- the five bits of an immediate, and the same as a signed number in 64 bits
+abbrev pub five : ℕ → ℕ
+five imm = imm % 32
+
+abbrev pub signedFive : ℕ → ℕ
+signedFive imm = wrap 64 (signed 5 (imm % 32))
+
+-- MAXI_S, MINI_S, CEQI, CLTI_S and CLEI_S have a signed immediate, the others an unsigned one
+abbrev pub basicImmediate : Basic → ℕ → ℕ
+basicImmediate basic.Addv imm = five imm
+basicImmediate basic.Subv imm = five imm
+basicImmediate basic.MaxS imm = signedFive imm
+basicImmediate basic.MaxU imm = five imm
+basicImmediate basic.MinS imm = signedFive imm
+basicImmediate basic.MinU imm = five imm
+
+abbrev pub compareImmediate : Compare → ℕ → ℕ
+compareImmediate compare.Ceq imm = signedFive imm
+compareImmediate compare.CltS imm = signedFive imm
+compareImmediate compare.CltU imm = five imm
+compareImmediate compare.CleS imm = signedFive imm
+compareImmediate compare.CleU imm = five imm
+
+-- an immediate, modulo 2^n, stands in every element in the place of wt
+abbrev pub imm5Of : Imm5 → ℕ → ℕ → ℕ → ℕ
+imm5Of (imm5.Basic o) n s imm = eachLane (lane.Arith (arith.Basic o)) n s s (filled n (basicImmediate o imm))
+imm5Of (imm5.Compare o) n s imm = eachLane (lane.Arith (arith.Compare o)) n s s (filled n (compareImmediate o imm))
+
+abbrev pub bitOf : BitOp → ℕ → ℕ → ℕ → ℕ → ℕ
+bitOf o n d s m = eachLane (lane.Bit o) n d s (filled n m)
+
+-- the same byte in all sixteen
+abbrev pub imm8Of : Logic → ℕ → ℕ → ℕ → ℕ
+imm8Of o d s imm = together 1 (logicBit o) d s (filled 8 imm)
+
+abbrev pub countOf : Count → ℕ → ℕ → ℕ
+countOf o n s = eachLane (lane.Count o) n s s s

@@ -1,0 +1,136 @@
+// What the operation of each encoding class makes of vector registers: the operations on registers behind the enums of the decoded
+// instruction. d, s and t are the old wd, ws and wt; an immediate stands in every element of t.
+ghost use mathlib.Core.Path.{_≡_};
+ghost use Prim.Native.Nat.{_%_};
+ghost use Rattle.isa.specs.Widths.{bits};
+ghost use Rattle.memory.specs.Value.{value, register};
+ghost use Rattle.forms.specs.Forms.{threeOf, indexedOf, basicImmediate, compareImmediate, imm5Of, bitOf, imm8Of, elementOf, countOf};
+use each::each;
+use isa::Arith;
+use isa::Basic;
+use isa::BitOp;
+use isa::Compare;
+use isa::Count;
+use isa::Element;
+use isa::Imm5;
+use isa::Indexed;
+use isa::Logic;
+use isa::Three;
+use isa::Width;
+use lanes::Lane;
+use logic::logic;
+use memory::Register;
+use permute::moves::extend;
+use permute::moves::insve;
+use permute::moves::splat;
+use permute::pack;
+use permute::slide;
+use permute::vshf;
+use vectors::spread;
+
+// 3R with three vector registers.
+pub fn three(op: Three, w: Width, d: Register, s: Register, t: Register) -> Register
+    ensures { λ r. ⌜ r ≡ register (threeOf op (bits w) (value d) (value s) (value t)) ⌝ }
+{
+    match op {
+        Three::Arith(o) => each(Lane::Arith(o), w, d, s, t),
+        Three::Bitwise(o) => each(Lane::Bit(BitOp::Bitwise(o)), w, d, s, t),
+        Three::Rounding(o) => each(Lane::Bit(BitOp::Rounding(o)), w, d, s, t),
+        Three::Pack(o) => pack(o, w, s, t),
+        Three::Vshf => vshf(w, d, s, t),
+    }
+}
+
+// 3R with the general register x in the place of wt.
+pub fn indexed(op: Indexed, w: Width, d: Register, s: Register, x: u64) -> Register
+    ensures { λ r. ⌜ r ≡ register (indexedOf op (bits w) (value d) (value s) x) ⌝ }
+{
+    match op {
+        Indexed::Sld => slide(w, d, s, x),
+        Indexed::Splat => splat(w, s, x),
+    }
+}
+
+// The immediate of I5, carried to 64 bits with or without its sign.
+fn basic_immediate(op: Basic, imm: u8) -> u64
+    ensures { λ r. ⌜ r ≡ basicImmediate op imm ⌝ }
+{
+    let bits = (imm as u64) % 32;
+    let number = extend(5, bits);
+    match op {
+        Basic::Addv => bits,
+        Basic::Subv => bits,
+        Basic::MaxS => number,
+        Basic::MaxU => bits,
+        Basic::MinS => number,
+        Basic::MinU => bits,
+    }
+}
+
+fn compare_immediate(op: Compare, imm: u8) -> u64
+    ensures { λ r. ⌜ r ≡ compareImmediate op imm ⌝ }
+{
+    let bits = (imm as u64) % 32;
+    let number = extend(5, bits);
+    match op {
+        Compare::Ceq => number,
+        Compare::CltS => number,
+        Compare::CltU => bits,
+        Compare::CleS => number,
+        Compare::CleU => bits,
+    }
+}
+
+// I5, but for LDI.
+pub fn imm5(op: Imm5, w: Width, s: Register, imm: u8) -> Register
+    ensures { λ r. ⌜ r ≡ register (imm5Of op (bits w) (value s) imm) ⌝ }
+{
+    match op {
+        Imm5::Basic(o) => each(
+            Lane::Arith(Arith::Basic(o)),
+            w,
+            s,
+            s,
+            spread(w, basic_immediate(o, imm)),
+        ),
+        Imm5::Compare(o) => each(
+            Lane::Arith(Arith::Compare(o)),
+            w,
+            s,
+            s,
+            spread(w, compare_immediate(o, imm)),
+        ),
+    }
+}
+
+pub fn bit(op: BitOp, w: Width, d: Register, s: Register, m: u8) -> Register
+    ensures { λ r. ⌜ r ≡ register (bitOf op (bits w) (value d) (value s) m) ⌝ }
+{
+    each(Lane::Bit(op), w, d, s, spread(w, m as u64))
+}
+
+// I8, but for SHF.
+pub fn imm8(op: Logic, d: Register, s: Register, imm: u8) -> Register
+    ensures { λ r. ⌜ r ≡ register (imm8Of op (value d) (value s) imm) ⌝ }
+{
+    logic(op, d, s, spread(Width::B, imm as u64))
+}
+
+// ELM between vector registers.
+pub fn element(op: Element, w: Width, d: Register, s: Register, n: u8) -> Register
+    ensures { λ r. ⌜ r ≡ register (elementOf op (bits w) (value d) (value s) n) ⌝ }
+{
+    let i = n as u64;
+    match op {
+        Element::Sldi => slide(w, d, s, i),
+        Element::Splati => splat(w, s, i),
+        Element::Insve => insve(w, d, i, s),
+    }
+}
+
+// 2R, but for FILL.
+pub fn count(op: Count, w: Width, s: Register) -> Register
+    ensures { λ r. ⌜ r ≡ register (countOf op (bits w) (value s)) ⌝ }
+{
+    each(Lane::Count(op), w, s, s, s)
+}

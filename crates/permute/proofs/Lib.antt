@@ -1,0 +1,3 @@
+-- The laws that the proofs of several functions, and of other crates, share.
+pub mod ChoiceLaws
+pub mod Extensions

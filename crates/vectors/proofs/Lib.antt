@@ -1,0 +1,4 @@
+-- The laws that the proofs of several functions, and of other crates, share.
+pub mod Sizes
+pub mod ElementLaws
+pub mod Wholes
