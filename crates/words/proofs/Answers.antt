@@ -1,6 +1,5 @@
 -- The answers to a word under its major opcode, what is formed, and that the promises leave one answer. Assumes nothing.
 use mathlib.Core.Path.{_≡_, refl, sym, _∙_}
-use mathlib.Core.Bool.{true}
 use Prim.Native.Nat.{ℕ, _<_, _^_}
 use borrow.Author.Tests.{ltb-true}
 use lib.Dec.{ltb}

@@ -1,11 +1,10 @@
 -- The tables' rules: the number of a cell's operation is that of its place, and the cell at that place has the operation.
 -- Each table is tested once, by computing. Assumes nothing.
-use mathlib.Core.Path.{_≡_, refl, _∙_, sym, subst}
-use mathlib.Core.Bool.{Bool, true, false}
-use mathlib.Core.List.{List, [], _∷_}
+use mathlib.Core.Path.{_≡_, refl}
+use mathlib.Core.Bool.{Bool, true}
+use mathlib.Core.List.{[], _∷_}
 use Prim.Native.Nat.{ℕ, zero, suc, _+_, _*_, _/_, _%_, _<_}
 use native.Mathlib.Omega.{arith}
-use native.Mathlib.Nat.{add-zero, zero-add, add-suc, suc-add}
 use lib.Dec.{eqb}
 use lib.ListN.{getD}
 use Rattle.isa.specs.declared.Width.{Width}

@@ -9,7 +9,7 @@ use Rattle.isa.specs.declared.Written.the-variants.{Word}
 use Rattle.isa.specs.Numbers.{readNumber}
 use Rattle.fields.specs.Fields.{bits}
 use Rattle.reading.specs.Reading.{readOf, Reads}
-use Rattle.writing.specs.Writing.{writeOf, Writes}
+use Rattle.writing.specs.Writing.{writeOf, instrNumber, Writes}
 use Rattle.words.specs.Formed.{Formed}
 
 -- a word that reads as an instruction is the word of that instruction
@@ -39,6 +39,10 @@ ReadFormed = (w : ℕ) (i : Instr) → w < 2 ^ 32 → readOf w ≡ read.Instr i 
 
 abbrev pub WriteFormed : Type 0
 WriteFormed = (i : Instr) (w : ℕ) → writeOf i ≡ Word w → Formed i
+
+-- and what is within its fields has a word: 6 is given exactly where an instruction is not
+abbrev pub FormedWrites : Type 0
+FormedWrites = (i : Instr) → Formed i → instrNumber i ≡ 0
 
 -- two answers that meet the promise are equal
 abbrev pub ReadUnique : Type 0
