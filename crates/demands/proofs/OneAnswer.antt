@@ -1,0 +1,23 @@
+-- Two answers that meet a promise are one: both are what the definition says.
+-- Assumes nothing.
+use mathlib.Core.Path.{_≡_, sym, _∙_}
+use Rattle.demands.specs.OneAnswer.{OneAdvance, OneStep, OneRun}
+
+pub one-advance : OneAdvance
+one-advance s r r′ v v′ g g′ w w′ i j =
+    let o = i .outcome ∙ sym (j .outcome) in
+    let c = i .control ∙ sym (j .control) in
+    (λ k. record { outcome = o k; control = c k }, i .vec ∙ sym (j .vec), i .gen ∙ sym (j .gen), i .work ∙ sym (j .work))
+
+pub one-step : OneStep
+one-step s r r′ v v′ g g′ w w′ i j =
+    let a = i .answer ∙ sym (j .answer) in
+    let c = i .control ∙ sym (j .control) in
+    (λ k. record { answer = a k; control = c k }, i .vec ∙ sym (j .vec), i .gen ∙ sym (j .gen), i .work ∙ sym (j .work))
+
+pub one-run : OneRun
+one-run s r r′ v v′ g g′ w w′ i j =
+    let a = i .reason ∙ sym (j .reason) in
+    let n = i .count ∙ sym (j .count) in
+    let c = i .control ∙ sym (j .control) in
+    (λ k. record { reason = a k; count = n k; control = c k }, i .vec ∙ sym (j .vec), i .gen ∙ sym (j .gen), i .work ∙ sym (j .work))

@@ -1,0 +1,4 @@
+pub mod Effect
+pub mod Numbers
+pub mod Run
+pub mod Step

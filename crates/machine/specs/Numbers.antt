@@ -1,0 +1,23 @@
+-- Document 01's number for each answer of a step and of a run.
+use Prim.Native.Nat.{ℕ}
+use Rattle.isa.specs.Numbers.{refusalNumber, stopNumber}
+use Rattle.machine.specs.declared.step.Outcome.{Outcome}
+use Rattle.machine.specs.declared.step.Outcome.the-variants.{Finished, Stopped}
+use Rattle.machine.specs.declared.step.Answer.{Answer}
+use Rattle.machine.specs.declared.step.Answer.the-variants.{Refused, Ran}
+use Rattle.machine.specs.declared.run.Reason.{Reason}
+use Rattle.machine.specs.declared.run.Reason.the-variants as reason
+
+-- 0 where the instruction is finished
+abbrev pub outcomeNumber : Outcome → ℕ
+outcomeNumber Finished = 0
+outcomeNumber (Stopped s) = stopNumber s
+
+abbrev pub answerNumber : Answer → ℕ
+answerNumber (Refused r) = refusalNumber r
+answerNumber (Ran o) = outcomeNumber o
+
+abbrev pub reasonNumber : Reason → ℕ
+reasonNumber (reason.Refused r) = refusalNumber r
+reasonNumber (reason.Stopped s) = stopNumber s
+reasonNumber reason.Spent = 20

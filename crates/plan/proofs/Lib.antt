@@ -1,0 +1,4 @@
+pub mod NumberLaws
+pub mod PlanLaws
+pub mod VecLaws
+pub mod ZeroLaws

@@ -1,0 +1,12 @@
+-- `plan::planned::branch_early`: by the mark. Assumes nothing.
+use borrow.Author.Needs.{needs}
+use Rattle.plan.proofs.planned.branch_early.Statement.{statement}
+use Rattle.plan.proofs.planned.branch_early.Tie as tie
+
+returns : tie.Need-returns
+returns c = rw (c .before .enum-told .given .1) (c .switched-early .ensures)
+
+pub branch-early-spec : {M : Type 1} → statement M
+branch-early-spec =
+    tie.close (tie.spec
+    (λ c. search needs) (λ c κs. search needs) (λ c. search needs) (λ c. search needs) returns (λ c. cc) (λ c. cc))

@@ -1,0 +1,4 @@
+pub mod Numbers
+pub mod Plan
+pub mod There
+pub mod Zero

@@ -1,0 +1,138 @@
+-- What each instruction does: a line a class. Sources are the values before the step.
+use Prim.Native.Nat.{ℕ, _*_}
+use mathlib.Core.List.{List}
+use mathlib.Core.Bool.{Bool, true, false, cond}
+use lib.Dec.{eqb}
+use lib.ListN.{length}
+use Rattle.isa.specs.declared.Vreg.{Vreg}
+use Rattle.isa.specs.declared.Greg.{Greg}
+use Rattle.isa.specs.Widths.{bits}
+use Rattle.isa.specs.declared.Memory.{Memory}
+use Rattle.isa.specs.declared.Memory.the-variants.{Ld, St}
+use Rattle.isa.specs.declared.Instr.{Instr}
+use Rattle.isa.specs.declared.Instr.the-variants as instr
+use Rattle.isa.specs.declared.Stop.{Stop}
+use Rattle.isa.specs.declared.Stop.the-variants.{BranchInSlot, SwitchedOff, NoWindow, ReadOnly, Trap}
+use Rattle.memory.specs.Bytes.{part, number}
+use Rattle.memory.specs.File.{registerAt}
+use Rattle.memory.specs.Value.{register}
+use Rattle.forms.specs.Forms.{threeOf, indexedOf, imm5Of, bitOf, imm8Of, elementOf, countOf}
+use Rattle.logic.specs.Logic.{logicBit}
+use Rattle.permute.specs.Loaded as ldi
+use Rattle.permute.specs.Permute.{chosenByImmediate, withElement}
+use Rattle.vectors.specs.Register.{whole, together, filled, element}
+use Rattle.state.specs.declared.control.Mark.{Mark}
+use Rattle.state.specs.declared.control.Mark.the-variants.{Clear, NotTaken, Taken}
+use Rattle.state.specs.declared.windows.Bases.{Bases}
+use Rattle.state.specs.declared.windows.Spot.{Spot}
+use Rattle.state.specs.declared.windows.Spot.the-variants.{Table, Work, Outside}
+use Rattle.state.specs.Csr.{masked, arms}
+use Rattle.state.specs.Machine.{Env, Machine}
+use Rattle.state.specs.Windows.{spotOf}
+use Rattle.plan.specs.declared.Plan.{Plan}
+use Rattle.plan.specs.declared.Plan.the-variants as plan
+use Rattle.plan.specs.declared.planned.Kind.{Kind}
+use Rattle.plan.specs.declared.planned.Kind.the-variants.{Branching, Switched, Free}
+use Rattle.plan.specs.declared.planned.Early.{Early}
+use Rattle.plan.specs.declared.planned.Early.the-variants.{Go, Stops}
+use Rattle.plan.specs.Numbers.{address, target, scaledOf, controlRead, copyOf}
+use Rattle.plan.specs.Zero.{takenOf, takenVOf}
+
+-- general register r: eight bytes at 8r
+unfoldable pub generalAt : List ℕ → Greg → ℕ
+generalAt generals r = number (part generals (8 * r .0) 8)
+
+-- the number x goes to vector register r
+abbrev pub writes : Vreg → ℕ → Plan
+writes r x = plan.Vector r (register x)
+
+-- LD answers with the sixteen bytes that stand at its addresses in one window
+abbrev pub loaded : Spot → Vreg → List ℕ → List ℕ → Plan
+loaded (Table i) wd table work = writes wd (number (part table i 16))
+loaded (Work i) wd table work = writes wd (number (part work i 16))
+loaded Outside wd table work = plan.Stop NoWindow
+
+-- ST replaces those of the work window
+abbrev pub stored : Spot → ℕ → ℕ → Plan
+stored (Table i) a x = plan.Stop ReadOnly
+stored (Work i) a x = plan.Store a (register x)
+stored Outside a x = plan.Stop NoWindow
+
+abbrev pub accessed : Memory → Bases → List ℕ → List ℕ → List ℕ → Vreg → ℕ → Plan
+accessed Ld bases table vectors work wd a = loaded (spotOf bases (length table) (length work) a) wd table work
+accessed St bases table vectors work wd a = stored (spotOf bases (length table) (length work) a) a (registerAt vectors wd)
+
+-- CTCMSA to MSACSR keeps the bits that exist, and stops where they arm a trap; to another control register it is done and changes nothing
+abbrev pub toControl : ℕ → ℕ → Plan
+toControl cd x = cond (eqb cd 1) (cond (arms (masked x)) (plan.Stop Trap) (plan.Csr (masked x))) plan.Nothing
+
+-- every branch, taken or not, sets the slot mark
+abbrev pub marked : Bool → ℕ → Mark
+marked true to = Taken to
+marked false to = NotTaken
+
+abbrev pub executed : Env → Machine → Instr → Plan
+executed e m (instr.Three o df wd ws wt) = writes wd (threeOf o (bits df) (registerAt (m .vec) wd) (registerAt (m .vec) ws) (registerAt (m .vec) wt))
+executed e m (instr.Indexed o df wd ws rt) = writes wd (indexedOf o (bits df) (registerAt (m .vec) wd) (registerAt (m .vec) ws) (generalAt (m .gen) rt))
+executed e m (instr.Imm5 o df wd ws imm) = writes wd (imm5Of o (bits df) (registerAt (m .vec) ws) imm)
+executed e m (instr.Ldi df wd imm) = writes wd (ldi.loaded (bits df) imm)
+executed e m (instr.Bit o df wd ws k) = writes wd (bitOf o (bits df) (registerAt (m .vec) wd) (registerAt (m .vec) ws) k)
+executed e m (instr.Imm8 o wd ws imm) = writes wd (imm8Of o (registerAt (m .vec) wd) (registerAt (m .vec) ws) imm)
+executed e m (instr.Shf df wd ws imm) = writes wd (whole (bits df) (chosenByImmediate imm (bits df) (registerAt (m .vec) ws)))
+executed e m (instr.Element o df wd ws n) = writes wd (elementOf o (bits df) (registerAt (m .vec) wd) (registerAt (m .vec) ws) n)
+executed e m (instr.Copy o df rd ws n) = plan.General rd (copyOf o df (registerAt (m .vec) ws) n)
+executed e m (instr.Insert df wd n rs) = writes wd (whole (bits df) (withElement n (generalAt (m .gen) rs) (bits df) (registerAt (m .vec) wd)))
+executed e m (instr.Move wd ws) = writes wd (registerAt (m .vec) ws)
+executed e m (instr.Cfcmsa rd cs) = plan.General rd (controlRead (cs .0) (m .ctl .csr))
+executed e m (instr.Ctcmsa cd rs) = toControl (cd .0) (generalAt (m .gen) rs)
+executed e m (instr.Vec o wd ws wt) = writes wd (together 1 (logicBit o) (registerAt (m .vec) wd) (registerAt (m .vec) ws) (registerAt (m .vec) wt))
+executed e m (instr.Fill df wd rs) = writes wd (filled (bits df) (generalAt (m .gen) rs))
+executed e m (instr.Count o df wd ws) = writes wd (countOf o (bits df) (registerAt (m .vec) ws))
+executed e m (instr.Memory o df wd offset rs) = accessed o (e .bases) (e .table) (m .vec) (m .work) wd (address df offset (generalAt (m .gen) rs))
+executed e m (instr.Branch o df wt offset) = plan.Branch (marked (takenOf o df (registerAt (m .vec) wt)) (target (m .ctl .pc) offset))
+executed e m (instr.BranchV o wt offset) = plan.Branch (marked (takenVOf o (registerAt (m .vec) wt)) (target (m .ctl .pc) offset))
+executed e m (instr.Scaled o rd rs rt sa) = plan.General rd (scaledOf o (generalAt (m .gen) rs) (generalAt (m .gen) rt) sa)
+
+-- which of 15 and 16 concern an instruction: both a branch, neither LSA and DLSA, and 16 every other
+abbrev pub kindOf : Instr → Kind
+kindOf (instr.Three o df wd ws wt) = Switched
+kindOf (instr.Indexed o df wd ws rt) = Switched
+kindOf (instr.Imm5 o df wd ws imm) = Switched
+kindOf (instr.Ldi df wd imm) = Switched
+kindOf (instr.Bit o df wd ws k) = Switched
+kindOf (instr.Imm8 o wd ws imm) = Switched
+kindOf (instr.Shf df wd ws imm) = Switched
+kindOf (instr.Element o df wd ws n) = Switched
+kindOf (instr.Copy o df rd ws n) = Switched
+kindOf (instr.Insert df wd n rs) = Switched
+kindOf (instr.Move wd ws) = Switched
+kindOf (instr.Cfcmsa rd cs) = Switched
+kindOf (instr.Ctcmsa cd rs) = Switched
+kindOf (instr.Vec o wd ws wt) = Switched
+kindOf (instr.Fill df wd rs) = Switched
+kindOf (instr.Count o df wd ws) = Switched
+kindOf (instr.Memory o df wd offset rs) = Switched
+kindOf (instr.Branch o df wt offset) = Branching
+kindOf (instr.BranchV o wt offset) = Branching
+kindOf (instr.Scaled o rd rs rt sa) = Free
+
+abbrev pub switchedEarly : Bool → Early
+switchedEarly true = Go
+switchedEarly false = Stops SwitchedOff
+
+abbrev pub branchEarly : Mark → Bool → Early
+branchEarly Clear on = switchedEarly on
+branchEarly NotTaken on = Stops BranchInSlot
+branchEarly (Taken t) on = Stops BranchInSlot
+
+abbrev pub early : Kind → Mark → Bool → Early
+early Branching k on = branchEarly k on
+early Switched k on = switchedEarly on
+early Free k on = Go
+
+abbrev pub unless : Early → Plan → Plan
+unless Go p = p
+unless (Stops s) p = plan.Stop s
+
+unfoldable pub planOf : Env → Machine → Instr → Plan
+planOf e m i = unless (early (kindOf i) (m .ctl .mark) (m .ctl .on)) (executed e m i)

@@ -1,0 +1,25 @@
+// What an instruction would do to a machine, as a value. Nothing is changed here: a plan names the reason to stop, or the one thing that
+// changes beside the program counter. So the sources are always the values before the step, and two machines can be compared by their plans.
+pub mod address;
+pub mod branch;
+pub mod moves;
+pub mod planned;
+pub mod vector;
+pub mod zero;
+
+use isa::Greg;
+use isa::Stop;
+use isa::Vreg;
+use memory::Register;
+use state::control::Mark;
+
+pub enum Plan {
+    Stop(Stop),
+    Nothing,
+    Vector(Vreg, Register),
+    General(Greg, u64),
+    // the register's sixteen bytes go to this address of the work window
+    Store(u64, Register),
+    Csr(u32),
+    Branch(Mark),
+}

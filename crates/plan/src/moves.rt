@@ -1,0 +1,175 @@
+// Plans of the moves between files and of loads and stores.
+use crate::Plan;
+use isa::Copied;
+use isa::Creg;
+use isa::Greg;
+use isa::Memory;
+use isa::Scaled;
+use isa::Stop;
+use isa::Vreg;
+use isa::Width;
+use linear::wrapping::addv;
+use memory::Register;
+use memory::file::read_register;
+use permute::moves::copy_s;
+use permute::moves::copy_u;
+use permute::moves::extend;
+use products::product::mulv;
+use state::setup::mask;
+use state::windows::Bases;
+use state::windows::Spot;
+use state::windows::locate;
+ghost use mathlib.Core.Path.{_≡_};
+ghost use Prim.Native.Nat.{_+_, _^_, _<_};
+ghost use lib.ListN.{length};
+ghost use Rattle.memory.specs.File.{registerAt};
+ghost use Rattle.memory.specs.Value.{value};
+ghost use Rattle.state.specs.Csr.{arms};
+ghost use Rattle.state.specs.Csr as csr;
+ghost use Rattle.state.specs.Windows.{spotOf};
+ghost use Rattle.plan.specs.Numbers.{lsa, dlsa, scaledOf, controlRead, copyOf};
+ghost use Rattle.plan.specs.Plan.{generalAt, loaded, stored, accessed, toControl};
+
+pub fn general(generals: &[u8], r: Greg) -> u64
+    requires { ⌜ (length (now generals) ≡ 256) × (r .0 < 32) ⌝ }
+    ensures { λ x. ⌜ x ≡ generalAt (now (generals .entry)) r ⌝ }
+{
+    let n = r.0 as usize;
+    memory::eight(generals, 8 * n)
+}
+
+fn copied(op: Copied, df: Width, s: Register, n: u64) -> u64
+    ensures { λ r. ⌜ r ≡ copyOf op df (value s) n ⌝ }
+{
+    match op {
+        Copied::CopyS => copy_s(df, s, n),
+        Copied::CopyU => copy_u(df, s, n),
+    }
+}
+
+pub fn copy(op: Copied, df: Width, rd: Greg, ws: Vreg, n: u8, vectors: &[u8]) -> Plan
+    requires { ⌜ (length (now vectors) ≡ 512) × (ws .0 < 32) ⌝ }
+    ensures { λ r. ⌜ r ≡ Plan.General rd (copyOf op df (registerAt (now (vectors .entry)) ws) n) ⌝ }
+{
+    Plan::General(rd, copied(op, df, read_register(vectors, ws), n as u64))
+}
+
+pub fn from_control(rd: Greg, cs: Creg, csr: u32) -> Plan
+    ensures { λ r. ⌜ r ≡ Plan.General rd (controlRead (cs .0) csr) ⌝ }
+{
+    if cs.0 == 1 {
+        Plan::General(rd, csr as u64)
+    } else {
+        Plan::General(rd, 0)
+    }
+}
+
+fn bit(k: u32, v: u32) -> bool
+    requires { ⌜ k < 32 ⌝ }
+    ensures { λ r. ⌜ r ≡ csr.bit k v ⌝ }
+{
+    (v >> k) % 2 == 1
+}
+
+// Whether a value of MSACSR arms a float trap.
+fn has_trap(v: u32) -> bool
+    ensures { λ r. ⌜ r ≡ arms v ⌝ }
+{
+    bit(17, v)
+        | (bit(16, v) & bit(11, v))
+        | (bit(15, v) & bit(10, v))
+        | (bit(14, v) & bit(9, v))
+        | (bit(13, v) & bit(8, v))
+        | (bit(12, v) & bit(7, v))
+}
+
+pub fn to_control(cd: Creg, x: u64) -> Plan
+    ensures { λ r. ⌜ r ≡ toControl (cd .0) x ⌝ }
+{
+    if cd.0 == 1 {
+        let v = mask(x);
+        if has_trap(v) {
+            return Plan::Stop(Stop::Trap);
+        }
+        return Plan::Csr(v);
+    }
+    Plan::Nothing
+}
+
+fn load(wd: Vreg, a: u64, bases: Bases, table: &[u8], work: &[u8]) -> Plan
+    ensures { λ r. ⌜ r ≡ loaded (spotOf bases (length (now (table .entry))) (length (now (work .entry))) a) wd (now (table .entry)) (now (work .entry)) ⌝ }
+{
+    match locate(bases, table.len(), work.len(), a) {
+        Spot::Table(i) => Plan::Vector(wd, memory::sixteen(table, i)),
+        Spot::Work(i) => Plan::Vector(wd, memory::sixteen(work, i)),
+        Spot::Outside => Plan::Stop(Stop::NoWindow),
+    }
+}
+
+fn store(wd: Vreg, a: u64, bases: Bases, table: usize, work: usize, vectors: &[u8]) -> Plan
+    requires { ⌜ (length (now vectors) ≡ 512) × (wd .0 < 32) ⌝ }
+    ensures { λ r. ⌜ r ≡ stored (spotOf bases table work a) a (registerAt (now (vectors .entry)) wd) ⌝ }
+{
+    match locate(bases, table, work, a) {
+        Spot::Table(_) => Plan::Stop(Stop::ReadOnly),
+        Spot::Work(_) => Plan::Store(a, read_register(vectors, wd)),
+        Spot::Outside => Plan::Stop(Stop::NoWindow),
+    }
+}
+
+// LD and ST at the address a.
+pub fn access(
+    op: Memory,
+    wd: Vreg,
+    a: u64,
+    bases: Bases,
+    table: &[u8],
+    vectors: &[u8],
+    work: &[u8],
+) -> Plan
+    requires { ⌜ (length (now vectors) ≡ 512) × (wd .0 < 32) ⌝ }
+    ensures { λ r. ⌜ r ≡ accessed op bases (now (table .entry)) (now (vectors .entry)) (now (work .entry)) wd a ⌝ }
+{
+    match op {
+        Memory::Ld => load(wd, a, bases, table, work),
+        Memory::St => store(wd, a, bases, table.len(), work.len(), vectors),
+    }
+}
+
+// Two to the sa + 1.
+fn factor(sa: u8) -> u64
+    requires { ⌜ sa < 4 ⌝ }
+    ensures { λ r. ⌜ r ≡ 2 ^ (sa + 1) ⌝ }
+{
+    match sa {
+        0 => 2,
+        1 => 4,
+        2 => 8,
+        _ => 16,
+    }
+}
+
+fn lsa_of(x: u64, y: u64, sa: u8) -> u64
+    requires { ⌜ sa < 4 ⌝ }
+    ensures { λ r. ⌜ r ≡ lsa x y sa ⌝ }
+{
+    let product = mulv(Width::W, x % 4294967296, factor(sa));
+    extend(32, addv(Width::W, product, y % 4294967296))
+}
+
+fn dlsa_of(x: u64, y: u64, sa: u8) -> u64
+    requires { ⌜ sa < 4 ⌝ }
+    ensures { λ r. ⌜ r ≡ dlsa x y sa ⌝ }
+{
+    addv(Width::D, mulv(Width::D, x, factor(sa)), y)
+}
+
+pub fn scaled(op: Scaled, rd: Greg, x: u64, y: u64, sa: u8) -> Plan
+    requires { ⌜ sa < 4 ⌝ }
+    ensures { λ r. ⌜ r ≡ Plan.General rd (scaledOf op x y sa) ⌝ }
+{
+    match op {
+        Scaled::Lsa => Plan::General(rd, lsa_of(x, y, sa)),
+        Scaled::Dlsa => Plan::General(rd, dlsa_of(x, y, sa)),
+    }
+}

@@ -1,0 +1,4 @@
+pub mod FetchLaws
+pub mod SetupLaws
+pub mod TestLaws
+pub mod WindowLaws

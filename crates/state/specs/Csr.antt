@@ -1,0 +1,21 @@
+-- MSACSR: the bits that exist, and the values that arm a float trap.
+use Prim.Native.Nat.{ℕ, _+_, _*_, _/_, _%_, _^_}
+use mathlib.Core.Bool.{Bool, _&&_, _||_}
+use lib.Dec.{eqb}
+
+-- the bits of 0107FFFF hex: 0 to 18, and 24
+abbrev pub masked : ℕ → ℕ
+masked x = x % 2 ^ 19 + 2 ^ 24 * (x / 2 ^ 24 % 2)
+
+abbrev pub bit : ℕ → ℕ → Bool
+bit k v = eqb (v / 2 ^ k % 2) 1
+
+-- bit 17, or a position that bits 16..12 and 11..7 share
+abbrev pub arms : ℕ → Bool
+arms v =
+    bit 17 v
+    || (bit 16 v && bit 11 v)
+    || (bit 15 v && bit 10 v)
+    || (bit 14 v && bit 9 v)
+    || (bit 13 v && bit 8 v)
+    || (bit 12 v && bit 7 v)
