@@ -13,12 +13,25 @@ back-four a = omega arith
 
 pub all-agree : (a : ℕ) → Agree (sums a)
 unfolding writeOf readOf
-all-agree a =
-    (refl,
-    (refl,
-    (refl,
-    (refl,
-    (refl,
-    (refl,
-    (back-four a,
-    tt)))))))
+all-agree a = (
+  refl,
+  (
+    refl,
+    (
+      refl,
+      (
+        refl,
+        (
+          refl,
+          (
+            refl,
+            (
+              back-four a,
+              tt,
+            ),
+          ),
+        ),
+      ),
+    ),
+  ),
+)
