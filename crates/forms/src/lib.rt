@@ -1,7 +1,6 @@
 // What the operation of each encoding class makes of vector registers: the operations on registers behind the enums of the decoded
 // instruction. d, s and t are the old wd, ws and wt; an immediate stands in every element of t.
 ghost use mathlib.Core.Path.{_≡_};
-ghost use Prim.Native.Nat.{_%_};
 ghost use Rattle.isa.specs.Widths.{bits};
 ghost use Rattle.memory.specs.Value.{value, register};
 ghost use Rattle.forms.specs.Forms.{threeOf, indexedOf, basicImmediate, compareImmediate, imm5Of, bitOf, imm8Of, elementOf, countOf};

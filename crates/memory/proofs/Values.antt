@@ -1,6 +1,6 @@
 -- A register in two words and its number: each is the other's inverse.
 use mathlib.Core.Path.{_≡_, refl, sym, ap, _∙_}
-use Prim.Native.Nat.{ℕ, _+_, _*_, _/_, _%_, _^_, _<_}
+use Prim.Native.Nat.{ℕ, _*_, _/_, _%_, _^_, _<_}
 use native.Mathlib.Nat.{add-comm, mod-lt, mod-eq-of-lt}
 use lib.Arith.{digits-lt}
 use lib.Pow.{pow-pos, mod-pow-add}

@@ -1,9 +1,7 @@
 -- `vectors::spread` meets its contract. Both words are the same.
 use borrow.Author.Needs.{needs}
 use native.Mathlib.Nat.{mod-lt}
-use native.Mathlib.Omega.{arith}
 use lib.Pow.{pow-pos}
-use Rattle.isa.specs.Widths.{bits}
 use Rattle.memory.proofs.Values.{is-register}
 use Rattle.vectors.specs.Register.{filled}
 use Rattle.vectors.proofs.Sizes.{shares}
