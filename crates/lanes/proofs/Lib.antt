@@ -1,3 +1,2 @@
 -- The laws of the operations on an element.
 pub mod Below
-pub mod Sums

@@ -1,3 +1,2 @@
--- The one operation on an element, by its name, and document 01's sums about it.
+-- The one operation on an element, by its name.
 pub mod Lane
-pub mod Sums

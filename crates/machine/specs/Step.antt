@@ -26,6 +26,7 @@ use Rattle.machine.specs.declared.step.Answer.{Answer}
 use Rattle.machine.specs.declared.step.Answer.the-variants.{Refused, Ran}
 use Rattle.machine.specs.declared.step.Answered.{Answered}
 use Rattle.machine.specs.Effect.{applied}
+use Rattle.machine.specs.Numbers.{answerNumber}
 
 -- how a step ends, and the machine then
 pub record Result : Type 0 where
@@ -94,6 +95,7 @@ ranAs s = record { answer = Ran (s .outcome); control = s .control }
 
 pub record WholeIs (s : Whole) (r : Answered) (v g w : List ℕ) : Type 0 where
   pub answer : r .answer ≡ s .answer
+  pub number : answerNumber (r .answer) ≡ answerNumber (s .answer)
   pub control : r .control ≡ s .after .ctl
   pub vec : v ≡ s .after .vec
   pub gen : g ≡ s .after .gen

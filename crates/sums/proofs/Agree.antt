@@ -1,37 +1,29 @@
 -- Every sum of the list agrees, by computing. Assumes nothing.
-use mathlib.Core.Path.{_≡_, refl}
+use mathlib.Core.Path.{_≡_, refl, _∙_}
 use Prim.Native.Nat.{ℕ, _+_, _-_, _%_, _^_}
 use native.Mathlib.Omega.{arith}
+use Rattle.element.specs.Value.{signed, magnitude, wrap, clamp, sat}
+use Rattle.linear.specs.Sums.{addv, addA, addsA, asub, subsuuS, average}
+use Rattle.permute.specs.Permute.{chosenByControl, both}
+use Rattle.plan.specs.Numbers.{target, lsa}
+use Rattle.plan.proofs.NumberLaws.{scaled-sum-on}
+use Rattle.products.specs.Halves.{products, dotp, hsub}
+use Rattle.products.specs.Products.{mulv, quotient, remainder}
 use Rattle.reading.specs.Reading.{readOf}
+use Rattle.vectors.specs.Register.{element}
 use Rattle.writing.specs.Writing.{writeOf}
-use Rattle.words.specs.Target.{branchTarget}
 use Rattle.sums.specs.Sums.{Agree, sums}
 
-back-four : (a : ℕ) → branchTarget a 0xFFFE ≡ (a + (2 ^ 64 - 4)) % 2 ^ 64
-unfolding branchTarget
-back-four a = omega arith
+-- −2 as a number of 64 bits
+minus-two : wrap 64 (signed 16 0xFFFE) ≡ 2 ^ 64 - 2
+unfolding wrap signed
+minus-two = refl
 
-pub all-agree : (a : ℕ) → Agree (sums a)
-unfolding writeOf readOf
-all-agree a = (
-  refl,
-  (
-    refl,
-    (
-      refl,
-      (
-        refl,
-        (
-          refl,
-          (
-            refl,
-            (
-              back-four a,
-              tt,
-            ),
-          ),
-        ),
-      ),
-    ),
-  ),
-)
+back-four : (a : ℕ) → target a 0xFFFE ≡ (a + (2 ^ 64 - 4)) % 2 ^ 64
+unfolding target addv mulv
+back-four a = scaled-sum-on a 4 4 (signed 16 0xFFFE) ∙ rw minus-two (omega arith)
+
+pub all-agree : (a ws wt : ℕ) → Agree (sums a ws wt)
+unfolding writeOf readOf signed magnitude wrap clamp sat addA addsA asub subsuuS average quotient remainder products dotp hsub chosenByControl both element lsa
+all-agree a ws wt =
+    (refl, (refl, (refl, (refl, (refl, (refl, (back-four a, (refl, (refl, (refl, (refl, (refl, (refl, (refl, (refl, (refl, (refl, (refl, (refl, (refl, (refl, tt)))))))))))))))))))))

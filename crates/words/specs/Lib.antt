@@ -1,3 +1,2 @@
 pub mod Formed
-pub mod Target
 pub mod Theorems
