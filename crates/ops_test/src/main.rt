@@ -1,27 +1,23 @@
-// Runs the cases of shared/vectors/ops.txt that work on vector registers, in the form that tools/ops_cases.py writes, by reading each word
-// and doing its operation, and prints how many results are those of the case.
+// Runs the cases of shared/vectors/ops.txt, one instruction on registers alone each, in the form that tools/ops_cases.py writes: reads the
+// word, does its operation, and prints how many results are those of the case. After them, the same for tools/examples.txt.
 ghost use Prim.Native.Nat.{_≤_};
 ghost use lib.ListN.{length};
 use isa::Copied;
 use isa::Greg;
 use isa::Instr;
 use isa::Read;
+use isa::Scaled;
 use isa::Width;
 use memory::Register;
 use memory::eight;
 use memory::four;
 use memory::sixteen;
+use plan::Plan;
 
 enum Outcome {
     Vector(Register),
     General(u64),
     Nothing,
-}
-
-enum Turn {
-    Agrees,
-    Differs,
-    End,
 }
 
 // A write to register 0 is dropped.
@@ -35,6 +31,16 @@ fn copied(op: Copied, w: Width, rd: Greg, s: Register, n: u8) -> Outcome {
     match op {
         Copied::CopyS => written(rd, permute::moves::copy_s(w, s, i)),
         Copied::CopyU => written(rd, permute::moves::copy_u(w, s, i)),
+    }
+}
+
+fn scaled(op: Scaled, rd: Greg, x: u64, y: u64, sa: u8) -> Outcome {
+    if 3 < sa {
+        return Outcome::Nothing;
+    }
+    match plan::moves::scaled(op, rd, x, y, sa) {
+        Plan::General(r, v) => written(r, v),
+        _ => Outcome::Nothing,
     }
 }
 
@@ -77,6 +83,13 @@ fn other(i: Instr, d: Register, s: Register, rs: u64, rt: u64) -> Outcome {
         } => Outcome::Vector(permute::insert(df, d, n as u64, rs)),
         Instr::Fill { df, wd: _, rs: _ } => Outcome::Vector(vectors::spread(df, rs)),
         Instr::Move { wd: _, ws: _ } => Outcome::Vector(s),
+        Instr::Scaled {
+            op,
+            rd,
+            rs: _,
+            rt: _,
+            sa,
+        } => scaled(op, rd, rs, rt, sa),
         _ => Outcome::Nothing,
     }
 }
@@ -151,38 +164,50 @@ fn agrees(b: &[u8]) -> bool
     same(result(i, d, s, t, rs, rt), kind, e)
 }
 
-fn next_case() -> Turn {
+fn next_case() -> bool {
     let mut b = [0u8; 96];
     let n = io::read_full(0, &mut b);
     if n < 96 {
-        return Turn::End;
+        return false;
     }
-    if agrees(&b) {
-        Turn::Agrees
-    } else {
-        Turn::Differs
+    agrees(&b)
+}
+
+// The number of cases of the next part.
+fn announced() -> u64 {
+    let mut b = [0u8; 8];
+    let n = io::read_full(0, &mut b);
+    if n < 8 {
+        return 0;
     }
+    eight(&b, 0)
+}
+
+// How many of the next n cases agree.
+fn agreeing(n: u64) -> u64
+    ensures { λ r. ⌜ r ≤ n ⌝ }
+{
+    let mut agreed = 0u64;
+    let mut i = 0u64;
+    while i < n {
+        if next_case() {
+            agreed += 1;
+        }
+        i += 1;
+    }
+    agreed
+}
+
+fn report(n: u64) {
+    io::print_decimal(1, agreeing(n));
+    io::write_all(1, b" of ");
+    io::print_decimal(1, n);
+    io::write_all(1, b" agree\n");
 }
 
 fn main() {
-    let mut agreed = 0u64;
-    let mut cases = 0u64;
-    while cases < 65536 {
-        match next_case() {
-            Turn::Agrees => {
-                agreed += 1;
-                cases += 1;
-            }
-            Turn::Differs => {
-                cases += 1;
-            }
-            Turn::End => {
-                break;
-            }
-        }
-    }
-    io::print_decimal(1, agreed);
-    io::write_all(1, b" of ");
-    io::print_decimal(1, cases);
-    io::write_all(1, b" agree\n");
+    io::write_all(1, b"ops.txt: ");
+    report(announced());
+    io::write_all(1, b"examples and sums: ");
+    report(announced());
 }
