@@ -1,5 +1,5 @@
 -- The code's two tables, cells of eight bytes and lengths, are those of the names: tested once, by computing. Assumes nothing.
-use mathlib.Core.Path.{_≡_, refl, ap₂}
+use mathlib.Core.Path.{_≡_, refl, sym, ap, ap₂}
 use mathlib.Core.Bool.{Bool, true, false}
 use mathlib.Core.List.{List, [], _∷_, _++_, map}
 use Prim.Native.Nat.{ℕ, zero, suc, _*_, _≤_, _<_}
@@ -7,7 +7,7 @@ use Prim.Native.String.{String}
 use native.Mathlib.Omega.{arith}
 use borrow.Author.Tests.{eqb-true, leb-true}
 use lib.Dec.{eqb, leb}
-use lib.ListN.{length, getD, take, drop, List·getD-map}
+use lib.ListN.{length, getD, take, drop, List·getD-map, List·getD-eq-default}
 use Rattle.fields.specs.Fields.{both}
 use Rattle.fields.proofs.Fields.{both-left, both-right}
 use Rattle.fields.proofs.Table.{every, at}
@@ -52,3 +52,7 @@ length-right k = List·getD-map letters names k ""
 
 pub length-small : (k : ℕ) → length (name k) ≤ 8
 length-small k = leb-true (length (name k)) 8 (at (λ k s. leb (letters s) 8) "" (λ k. refl) names refl k)
+
+-- past the table
+pub no-name : (k : ℕ) → 176 ≤ k → [] ≡ name k
+no-name k h = sym (ap bytes (List·getD-eq-default names "" h))

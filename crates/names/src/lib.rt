@@ -48,11 +48,14 @@ fn name_length(k: usize) -> u8
     LENGTHS[k]
 }
 
-// The mnemonic at place k.
+// The mnemonic at place k; none stands past the table.
 pub fn put_name(line: &mut [u8], at: usize, k: usize) -> usize
-    requires { ⌜ (k < 176) × Room (now line) at (name k) ⌝ }
+    requires { ⌜ Room (now line) at (name k) ⌝ }
     ensures { λ r. ⌜ Puts (now (line .entry)) at (name k) (now (line .exit)) r ⌝ }
 {
+    if 175 < k {
+        return at;
+    }
     let n = name_length(k) as usize;
     put_part(
         line,
