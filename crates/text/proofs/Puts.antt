@@ -21,7 +21,7 @@ puts-as {l} {m} {s} {t} {k} {p} e h = subst (λ (x : List ℕ). Puts l k x m p) 
 pub puts-then : {l m n s t : List ℕ} {k p q : ℕ} → Puts l k s m p → Puts m p t n q → Puts l k (s ++ t) n q
 puts-then {l} {m} {n} {s} {t} {k} {p} {q} f g = record {
   place = g .place ∙ ap (λ (x : ℕ). x + length t) (f .place) ∙ add-assoc k (length s) (length t) ∙ ap (λ (x : ℕ). k + x) (sym (length-append s t));
-  line = g .line ∙ ap (λ (x : List ℕ). sets x p t) (f .line) ∙ ap (λ (x : ℕ). sets (sets l k s) x t) (f .place) ∙ sym (sets-append l k s t)
+  line = g .line ∙ ap (λ (x : List ℕ). sets x p t) (f .line) ∙ ap (λ (x : ℕ). sets (sets l k s) x t) (f .place) ∙ sym (sets-append l k s t);
 }
 
 pub kept : {l m s : List ℕ} {k p : ℕ} → Puts l k s m p → length m ≡ length l

@@ -24,10 +24,10 @@ put-name-spec =
     (λ c. search needs)
     (λ c. search needs)
     (λ c κs.
-      let a = c .before .before .before .before .before .args in
-      let e = part (a .k) (c .before .before .name-length .ensures .0) in
-      (omega arith, room-as (sym e) (c .before .before .before .before .before .pre)))
+    let a = c .before .before .before .before .before .args in
+    let e = part (a .k) (c .before .before .name-length .ensures .0) in
+    (omega arith, room-as (sym e) (c .before .before .before .before .before .pre)))
     (λ c. search needs)
     (λ c.
-      let a = c .before .before .before .before .before .before .before .before .args in
-      puts-as (part (a .k) (c .before .before .before .before .before .name-length .ensures .0)) (c .before .before .put-part .ensures)))
+    let a = c .before .before .before .before .before .before .before .before .args in
+    puts-as (part (a .k) (c .before .before .before .before .before .name-length .ensures .0)) (c .before .before .put-part .ensures)))

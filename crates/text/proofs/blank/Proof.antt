@@ -18,8 +18,7 @@ abbrev μ-loop : tie.MeasureT-loop
 loop-again : tie.Need-loop-again Inv-loop μ-loop
 loop-again c =
     let inv = c .before .loop .inv in
-    let i : ℕ = c .before .loop .i in
-    (
+    let i : ℕ = c .before .loop .i in (
       simp length-set (omega arith),
       simp length-set (inv .1),
       rw (add-one i, take-suc-set (c .before .loop .line) i 32 (c .loop-test .taken), inv .2, replicate-append-replicate {A = ℕ} i 1 32, add-one i),

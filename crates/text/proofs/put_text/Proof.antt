@@ -29,7 +29,7 @@ at-end c = omega arith
 returns : tie.Need-returns Inv-loop μ-loop
 returns c = record {
   place = ap (λ (n : ℕ). c .before .before .args .at + n) (at-end c);
-  line = (rw drop-length at (rw (at-end c) at (c .before .loop .inv .2)))
+  line = (rw drop-length at (rw (at-end c) at (c .before .loop .inv .2)));
 }
 
 pub put-text-spec : {M : Type 1} → statement M
