@@ -8,7 +8,7 @@ use native.Mathlib.Omega.{arith}
 use lib.Dec.{ltb}
 use lib.ListN.{length, length-append}
 use Rattle.fields.specs.Fields.{pick, both}
-use Rattle.text.specs.Numerals.{digit, numeral, decimal}
+use Rattle.text.specs.Numerals.{digit, numeral, decimal, hex}
 
 module _ (base : ℕ) (short : Bool) where
   pub none : (most n : ℕ) → most ≡ 0 → [] ≡ numeral base short most n
@@ -36,3 +36,11 @@ at-most base short (suc k) n = one-more (both short (ltb n base)) (numeral base 
 pub all-digits : (base most n : ℕ) → length (numeral base false most n) ≡ most
 all-digits base zero n = refl
 all-digits base (suc k) n = omega (arith, length-append (numeral base false k (n / base)) (digit (n % base) ∷ []), all-digits base k (n / base))
+
+pub decimal-length : (n : ℕ) → length (decimal n) ≤ 5
+unfolding decimal
+decimal-length n = at-most 10 true 5 n
+
+pub hex-length : (n : ℕ) → length (hex n) ≡ 8
+unfolding hex
+hex-length n = all-digits 16 8 n

@@ -17,9 +17,9 @@ numeral base short zero n = []
 numeral base short (suc k) n = pick (both short (ltb n base)) [] (numeral base short k (n / base)) ++ digit (n % base) ∷ []
 
 -- a number below 100,000
-abbrev pub decimal : ℕ → List ℕ
+unfoldable pub decimal : ℕ → List ℕ
 decimal n = numeral 10 true 5 n
 
 -- eight digits
-abbrev pub hex : ℕ → List ℕ
+unfoldable pub hex : ℕ → List ℕ
 hex n = numeral 16 false 8 n
