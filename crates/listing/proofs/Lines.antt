@@ -13,12 +13,10 @@ use Rattle.isa.specs.declared.Instr.{Instr}
 use Rattle.isa.specs.declared.Instr.the-variants as instr
 use Rattle.isa.specs.declared.Read.{Read}
 use Rattle.isa.specs.declared.Read.the-variants as read
-use Rattle.shown.specs.declared.Number.{Number}
 use Rattle.shown.specs.declared.Form.{Form}
 use Rattle.shown.specs.declared.Form.the-variants.{Bare, Each, Whole}
-use Rattle.shown.specs.declared.Operand.{Operand}
-use Rattle.shown.specs.declared.Operand.the-variants as operand
 use Rattle.shown.specs.declared.Shown.{Shown}
+use Rattle.listing.specs.declared.Line.{Line}
 use Rattle.listing.specs.declared.Line.the-variants.{Refused, Length}
 use Rattle.fields.specs.Fields.{pick}
 use Rattle.isa.specs.Numbers.{unreadNumber}
@@ -27,10 +25,12 @@ use Rattle.text.specs.Text.{bytes, Room, Puts, padded}
 use Rattle.text.specs.Numerals.{decimal, hex}
 use Rattle.text.proofs.Numerals.{decimal-length, hex-length}
 use Rattle.text.proofs.Puts.{puts-padded}
+use Rattle.operands.specs.Operands.{operandsText}
+use Rattle.operands.proofs.Lengths.{mostOf, operands-fit}
 use Rattle.names.specs.Names.{name}
 use Rattle.names.proofs.Names.{length-small}
 use Rattle.shown.specs.Shown.{shownOf}
-use Rattle.listing.specs.Listing.{number, operandText, present, nextText, operandsText, formText, shownText, readText, textOf, lineOf, Lists}
+use Rattle.listing.specs.Listing.{formText, shownText, readText, textOf, lineOf, lineAnswer, Lists}
 
 -- the text in its parts
 pub line-text : (a w : ℕ) → hex a ++ bytes ": " ++ hex w ++ bytes " " ++ textOf w ≡ lineOf a w
@@ -38,52 +38,6 @@ unfolding lineOf
 line-text a w = refl
 
 -- ---- how long it may be
-
-number-fits : (n : Number) → length (number n) ≤ 6
-number-fits n = sign (n .minus)
-  where
-    sign : (b : Bool) → length (pick b (bytes "-") [] ++ decimal (n .size)) ≤ 6
-    sign true = omega (arith, decimal-length (n .size))
-    sign false = omega (arith, decimal-length (n .size))
-
--- the longest that an operand of a kind may be
-abbrev most : Operand → ℕ
-most operand.Nothing = 0
-most (operand.Vector r) = 7
-most (operand.General r) = 6
-most (operand.Control r) = 6
-most (operand.Number n) = 6
-most (operand.Element r n) = 14
-most (operand.Chosen r g) = 15
-most (operand.Offset n g) = 14
-
-operand-fits : (o : Operand) → length (operandText o) ≤ most o
-operand-fits operand.Nothing = omega arith
-operand-fits (operand.Vector r) = omega (arith, decimal-length (r .0))
-operand-fits (operand.General r) = omega (arith, decimal-length (r .0))
-operand-fits (operand.Control r) = omega (arith, decimal-length (r .0))
-operand-fits (operand.Number n) = number-fits n
-operand-fits (operand.Element r n) = simp length-append (omega (arith, decimal-length (r .0), decimal-length n))
-operand-fits (operand.Chosen r g) = simp length-append (omega (arith, decimal-length (r .0), decimal-length (g .0)))
-operand-fits (operand.Offset n g) = simp length-append (omega (arith, simp length-append at (number-fits n), decimal-length (g .0)))
-
--- with the comma before it
-abbrev mostNext : Operand → ℕ
-mostNext o = pick (present o) (1 + most o) 0
-
-next-fits : (o : Operand) → length (nextText o) ≤ mostNext o
-next-fits o = comma (present o)
-  where
-    comma : (b : Bool) → length (pick b (bytes "," ++ operandText o) []) ≤ pick b (1 + most o) 0
-    comma true = omega (arith, operand-fits o)
-    comma false = omega arith
-
-abbrev mostOf : Shown → ℕ
-mostOf s = most (s .a) + mostNext (s .b) + mostNext (s .c) + mostNext (s .d)
-
-operands-fit : (s : Shown) → length (operandsText (s .a) (s .b) (s .c) (s .d)) ≤ mostOf s
-operands-fit s =
-    simp length-append (omega (arith, operand-fits (s .a), next-fits (s .b), next-fits (s .c), next-fits (s .d)))
 
 small : (i : Instr) → leb (mostOf (shownOf i)) 29 ≡ true
 small (instr.Three o df wd ws wt) = refl
@@ -149,3 +103,11 @@ module _ (line : List ℕ) (a w : ℕ) where
           line = rw t (puts-padded 64 (line-fits a w) q);
           number = rw t;
         }
+
+-- what was answered is the line's length, which a line holds
+pub answered-fits : (line : List ℕ) (a w : ℕ) {r : Line} {n : ℕ} → r ≡ lineAnswer line a w → r ≡ Length n → n ≤ 64
+answered-fits line a w {r} {n} e f = by (eqb (length line) 64) (sym f ∙ e)
+  where
+    by : (b : Bool) → Length n ≡ pick b (Length (length (lineOf a w))) Refused → n ≤ 64
+    by true g = let h : n ≡ length (lineOf a w) = cc in omega (arith, line-fits a w)
+    by false g = absurd (let z : _≡_ {A = ℕ} 0 1 = cc in omega arith)

@@ -1,6 +1,5 @@
 -- The line of a word, document 01's "The listing", as a list of bytes.
 use mathlib.Core.Path.{_≡_}
-use mathlib.Core.Bool.{Bool, true, false}
 use mathlib.Core.List.{List, [], _∷_, _++_}
 use Prim.Native.Nat.{ℕ, _+_}
 use lib.Dec.{eqb}
@@ -9,11 +8,8 @@ use Rattle.isa.specs.declared.Width.{Width}
 use Rattle.isa.specs.declared.Width.the-variants.{B, H, W, D}
 use Rattle.isa.specs.declared.Read.{Read}
 use Rattle.isa.specs.declared.Read.the-variants.{Not, Instr}
-use Rattle.shown.specs.declared.Number.{Number}
 use Rattle.shown.specs.declared.Form.{Form}
 use Rattle.shown.specs.declared.Form.the-variants.{Bare, Each, Whole}
-use Rattle.shown.specs.declared.Operand.{Operand}
-use Rattle.shown.specs.declared.Operand.the-variants as operand
 use Rattle.shown.specs.declared.Shown.{Shown}
 use Rattle.listing.specs.declared.Line.{Line}
 use Rattle.listing.specs.declared.Line.the-variants.{Refused, Length}
@@ -22,47 +18,9 @@ use Rattle.isa.specs.Numbers.{unreadNumber}
 use Rattle.reading.specs.Reading.{readOf}
 use Rattle.text.specs.Text.{bytes, padded}
 use Rattle.text.specs.Numerals.{decimal, hex}
+use Rattle.operands.specs.Operands.{operandsText}
 use Rattle.names.specs.Names.{name}
 use Rattle.shown.specs.Shown.{shownOf}
-
--- ---- operands
-
-abbrev pub vector : ℕ → List ℕ
-vector r = bytes "$w" ++ decimal r
-
--- a general or a control register
-abbrev pub register : ℕ → List ℕ
-register r = bytes "$" ++ decimal r
-
-abbrev pub number : Number → List ℕ
-number n = pick (n .minus) (bytes "-") [] ++ decimal (n .size)
-
-abbrev pub operandText : Operand → List ℕ
-operandText operand.Nothing = []
-operandText (operand.Vector r) = vector (r .0)
-operandText (operand.General r) = register (r .0)
-operandText (operand.Control r) = register (r .0)
-operandText (operand.Number n) = number n
-operandText (operand.Element r n) = vector (r .0) ++ bytes "[" ++ decimal n ++ bytes "]"
-operandText (operand.Chosen r g) = vector (r .0) ++ bytes "[" ++ register (g .0) ++ bytes "]"
-operandText (operand.Offset n g) = number n ++ bytes "(" ++ register (g .0) ++ bytes ")"
-
-abbrev pub present : Operand → Bool
-present operand.Nothing = false
-present (operand.Vector r) = true
-present (operand.General r) = true
-present (operand.Control r) = true
-present (operand.Number n) = true
-present (operand.Element r n) = true
-present (operand.Chosen r g) = true
-present (operand.Offset n g) = true
-
--- an operand that follows another
-abbrev pub nextText : Operand → List ℕ
-nextText o = pick (present o) (bytes "," ++ operandText o) []
-
-abbrev pub operandsText : Operand → Operand → Operand → Operand → List ℕ
-operandsText a b c d = operandText a ++ nextText b ++ nextText c ++ nextText d
 
 -- ---- an instruction
 

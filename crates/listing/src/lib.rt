@@ -1,11 +1,9 @@
 // The listing: the line of a word in a lent line of 64 bytes.
-mod operands;
-
-use crate::operands::put_operands;
 use isa::Read;
 use isa::Unread;
 use isa::Width;
 use names::put_name;
+use operands::put_operands;
 use reading::read_word;
 use shown::Form;
 use shown::Shown;

@@ -1,9 +1,9 @@
--- `listing::operands::put_vector` meets its contract. Assumes nothing.
+-- `operands::put_vector` meets its contract. Assumes nothing.
 use Rattle.text.proofs.Puts.{puts-then}
 use Rattle.text.specs.Numerals.{decimal}
 use borrow.Author.Needs.{needs}
-use Rattle.listing.proofs.operands.put_vector.Statement.{statement}
-use Rattle.listing.proofs.operands.put_vector.Tie as tie
+use Rattle.operands.proofs.put_vector.Statement.{statement}
+use Rattle.operands.proofs.put_vector.Tie as tie
 
 pub put-vector-spec : {M : Type 1} → statement M
 put-vector-spec =

@@ -1,9 +1,9 @@
--- `listing::operands::put_register` meets its contract. Assumes nothing.
+-- `operands::put_register` meets its contract. Assumes nothing.
 use Rattle.text.proofs.Puts.{puts-then}
 use Rattle.text.specs.Numerals.{decimal}
 use borrow.Author.Needs.{needs}
-use Rattle.listing.proofs.operands.put_register.Statement.{statement}
-use Rattle.listing.proofs.operands.put_register.Tie as tie
+use Rattle.operands.proofs.put_register.Statement.{statement}
+use Rattle.operands.proofs.put_register.Tie as tie
 
 pub put-register-spec : {M : Type 1} → statement M
 put-register-spec =

@@ -1,4 +1,4 @@
--- `listing::operands::put_number` meets its contract. Assumes nothing.
+-- `operands::put_number` meets its contract. Assumes nothing.
 use Prim.Native.Nat.{ℕ}
 use Rattle.fields.specs.Fields.{pick}
 use Rattle.text.proofs.Puts.{puts-as, puts-then, room-as, room-left, room-right}
@@ -9,8 +9,8 @@ use mathlib.Core.Bool.{Bool, true, false}
 use mathlib.Core.List.{List, [], _++_}
 use mathlib.Core.List.{_++_}
 use mathlib.Core.Path.{_≡_, sym, ap}
-use Rattle.listing.proofs.operands.put_number.Statement.{statement}
-use Rattle.listing.proofs.operands.put_number.Tie as tie
+use Rattle.operands.proofs.put_number.Statement.{statement}
+use Rattle.operands.proofs.put_number.Tie as tie
 
 -- the number's text by its sign
 signs : {b c : Bool} (s : List ℕ) → b ≡ c → pick c (bytes "-") [] ++ s ≡ pick b (bytes "-") [] ++ s

@@ -1,10 +1,10 @@
--- `listing::operands::put_element` meets its contract. Assumes nothing.
+-- `operands::put_element` meets its contract. Assumes nothing.
 use Rattle.text.proofs.Puts.{puts-then, room-left, room-right}
 use Rattle.text.specs.Numerals.{decimal}
 use Rattle.text.specs.Text.{bytes}
 use borrow.Author.Needs.{needs}
-use Rattle.listing.proofs.operands.put_element.Statement.{statement}
-use Rattle.listing.proofs.operands.put_element.Tie as tie
+use Rattle.operands.proofs.put_element.Statement.{statement}
+use Rattle.operands.proofs.put_element.Tie as tie
 
 pub put-element-spec : {M : Type 1} → statement M
 put-element-spec =
