@@ -1,0 +1,113 @@
+-- No line is longer than 64 bytes, and what writing one answers. Assumes nothing.
+use mathlib.Core.Path.{_≡_, refl, sym, ap, _∙_, subst}
+use mathlib.Core.Bool.{Bool, true, false}
+use mathlib.Core.List.{List, [], _∷_, _++_}
+use Prim.Native.Nat.{ℕ, _+_, _≤_}
+use native.Mathlib.Omega.{arith}
+use borrow.Author.Tests.{leb-true, eq-eqb, ne-eqb}
+use lib.Dec.{eqb, leb}
+use lib.ListN.{length, replicate, length-append, length-replicate}
+use Rattle.isa.specs.declared.Element.{Element}
+use Rattle.isa.specs.declared.Element.the-variants as element
+use Rattle.isa.specs.declared.Instr.{Instr}
+use Rattle.isa.specs.declared.Instr.the-variants as instr
+use Rattle.isa.specs.declared.Read.{Read}
+use Rattle.isa.specs.declared.Read.the-variants as read
+use Rattle.shown.specs.declared.Form.{Form}
+use Rattle.shown.specs.declared.Form.the-variants.{Bare, Each, Whole}
+use Rattle.shown.specs.declared.Shown.{Shown}
+use Rattle.listing.specs.declared.Line.{Line}
+use Rattle.listing.specs.declared.Line.the-variants.{Refused, Length}
+use Rattle.fields.specs.Fields.{pick}
+use Rattle.isa.specs.Numbers.{unreadNumber}
+use Rattle.reading.specs.Reading.{readOf}
+use Rattle.text.specs.Text.{bytes, Room, Puts, padded}
+use Rattle.text.specs.Numerals.{decimal, hex}
+use Rattle.text.proofs.Numerals.{decimal-length, hex-length}
+use Rattle.text.proofs.Puts.{puts-padded}
+use Rattle.operands.specs.Operands.{operandsText}
+use Rattle.operands.proofs.Lengths.{mostOf, operands-fit}
+use Rattle.names.specs.Names.{name}
+use Rattle.names.proofs.Names.{length-small}
+use Rattle.shown.specs.Shown.{shownOf}
+use Rattle.listing.specs.Listing.{formText, shownText, readText, textOf, lineOf, lineAnswer, Lists}
+
+-- the text in its parts
+pub line-text : (a w : ℕ) → hex a ++ bytes ": " ++ hex w ++ bytes " " ++ textOf w ≡ lineOf a w
+unfolding lineOf
+line-text a w = refl
+
+-- ---- how long it may be
+
+small : (i : Instr) → leb (mostOf (shownOf i)) 29 ≡ true
+small (instr.Three o df wd ws wt) = refl
+small (instr.Indexed o df wd ws rt) = refl
+small (instr.Imm5 o df wd ws imm) = refl
+small (instr.Ldi df wd imm) = refl
+small (instr.Bit o df wd ws m) = refl
+small (instr.Imm8 o wd ws imm) = refl
+small (instr.Shf df wd ws imm) = refl
+small (instr.Element element.Sldi df wd ws n) = refl
+small (instr.Element element.Splati df wd ws n) = refl
+small (instr.Element element.Insve df wd ws n) = refl
+small (instr.Copy o df rd ws n) = refl
+small (instr.Insert df wd n rs) = refl
+small (instr.Move wd ws) = refl
+small (instr.Cfcmsa rd cs) = refl
+small (instr.Ctcmsa cd rs) = refl
+small (instr.Vec o wd ws wt) = refl
+small (instr.Fill df wd rs) = refl
+small (instr.Count o df wd ws) = refl
+small (instr.Memory o df wd offset rs) = refl
+small (instr.Branch o df wt offset) = refl
+small (instr.BranchV o wt offset) = refl
+small (instr.Scaled o rd rs rt sa) = refl
+
+form-fits : (f : Form) → length (formText f) ≤ 2
+form-fits Bare = omega arith
+form-fits (Each df) = omega arith
+form-fits Whole = omega arith
+
+shown-fits : (s : Shown) → mostOf s ≤ 29 → length (shownText s) ≤ 40
+shown-fits s h = simp length-append (omega (arith, length-small (s .name), form-fits (s .form), simp length-append at (operands-fit s)))
+
+read-fits : (r : Read) → length (readText r) ≤ 40
+read-fits (read.Not u) = omega (arith, decimal-length (unreadNumber u))
+read-fits (read.Instr i) = shown-fits (shownOf i) (leb-true (mostOf (shownOf i)) 29 (small i))
+
+pub line-fits : (a w : ℕ) → length (lineOf a w) ≤ 64
+line-fits a w =
+    subst (λ (l : List ℕ). length l ≤ 64) (line-text a w)
+    (simp length-append (omega (arith, hex-length a, hex-length w, read-fits (readOf w))))
+
+-- ---- the answer
+
+module _ (line : List ℕ) (a w : ℕ) where
+  pub refused : (length line ≡ 64 → ⊥) → Lists line a w Refused line
+  refused h = record { answered = rw (ne-eqb (length line) 64 h); line = rw (ne-eqb (length line) 64 h); number = rw (ne-eqb (length line) 64 h) }
+
+  module _ (h : length line ≡ 64) {blanks : List ℕ} (e : blanks ≡ replicate (length line) 32) where
+    sixty-four : blanks ≡ replicate 64 32
+    sixty-four = e ∙ ap (λ (n : ℕ). replicate n 32) h
+
+    pub room : Room blanks 0 (lineOf a w)
+    room = record { fits = omega (arith, line-fits a w, ap length sixty-four) }
+
+    pub listed : {after : List ℕ} {n : ℕ} → Puts blanks 0 (lineOf a w) after n → Lists line a w (Length n) after
+    listed {after} {n} p =
+        let q : Puts (replicate 64 32) 0 (lineOf a w) after n = subst (λ (l : List ℕ). Puts l 0 (lineOf a w) after n) sixty-four p in
+        let len : n ≡ length (lineOf a w) = omega (arith, p .place) in
+        let t : eqb (length line) 64 ≡ true = eq-eqb (length line) 64 h in
+        record {
+          answered = rw (t, len);
+          line = rw t (puts-padded 64 (line-fits a w) q);
+          number = rw t;
+        }
+
+-- what was answered is the line's length, which a line holds
+pub answered-fits : (line : List ℕ) (a w : ℕ) {r : Line} {n : ℕ} → r ≡ lineAnswer line a w → r ≡ Length n → n ≤ 64
+answered-fits line a w {r} {n} e f = by (eqb (length line) 64) (sym f ∙ e)
+  where
+    by : (b : Bool) → Length n ≡ pick b (Length (length (lineOf a w))) Refused → n ≤ 64
+    by true g = let h : n ≡ length (lineOf a w) = cc in omega (arith, line-fits a w)
+    by false g = absurd (let z : _≡_ {A = ℕ} 0 1 = cc in omega arith)

@@ -1,0 +1,31 @@
+-- A line says its address and its word. Assumes nothing.
+use mathlib.Core.Path.{_≡_, sym, _∙_}
+use mathlib.Core.List.{List, _++_}
+use Prim.Native.Nat.{ℕ, _+_, _<_}
+use native.Mathlib.Omega.{arith}
+use lib.ListN.{length, length-append}
+use Rattle.text.specs.Text.{bytes}
+use Rattle.text.specs.Numerals.{hex}
+use Rattle.text.proofs.Numerals.{hex-length}
+use Rattle.text.proofs.Same.{parts, hex-same}
+use Rattle.listing.specs.Listing.{textOf, lineOf}
+use Rattle.listing.proofs.Lines.{line-text}
+
+address-long : (a : ℕ) → length (hex a ++ bytes ": ") ≡ 10
+address-long a = simp length-append (omega (arith, hex-length a))
+
+word-long : (a w : ℕ) → length (hex a ++ bytes ": " ++ hex w) ≡ 18
+word-long a w = simp length-append (omega (arith, hex-length a, hex-length w))
+
+blank-long : (a w : ℕ) → length (hex a ++ bytes ": " ++ hex w ++ bytes " ") ≡ 19
+blank-long a w = simp length-append (omega (arith, hex-length a, hex-length w))
+
+-- two lines that are equal are of the same address, the same word and the same text
+pub same-line : (a w a′ w′ : ℕ) → a < 4294967296 → w < 4294967296 → a′ < 4294967296 → w′ < 4294967296
+    → lineOf a w ≡ lineOf a′ w′ → (a ≡ a′) × (w ≡ w′) × (textOf w ≡ textOf w′)
+same-line a w a′ w′ ha hw ha′ hw′ e =
+    let whole = parts 19 (blank-long a w) (blank-long a′ w′) (line-text a w ∙ e ∙ sym (line-text a′ w′)) in
+    let front = parts 18 (word-long a w) (word-long a′ w′) (whole .0) in
+    let both = parts 10 (address-long a) (address-long a′) (front .0) in
+    let address = parts 8 (hex-length a) (hex-length a′) (both .0) in
+    (hex-same a a′ ha ha′ (address .0), hex-same w w′ hw hw′ (both .1), whole .1)

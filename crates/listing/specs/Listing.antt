@@ -1,0 +1,70 @@
+-- The line of a word, document 01's "The listing", as a list of bytes.
+use mathlib.Core.Path.{_≡_}
+use mathlib.Core.List.{List, [], _∷_, _++_}
+use Prim.Native.Nat.{ℕ, _+_}
+use lib.Dec.{eqb}
+use lib.ListN.{length}
+use Rattle.isa.specs.declared.Width.{Width}
+use Rattle.isa.specs.declared.Width.the-variants.{B, H, W, D}
+use Rattle.isa.specs.declared.Read.{Read}
+use Rattle.isa.specs.declared.Read.the-variants.{Not, Instr}
+use Rattle.shown.specs.declared.Form.{Form}
+use Rattle.shown.specs.declared.Form.the-variants.{Bare, Each, Whole}
+use Rattle.shown.specs.declared.Shown.{Shown}
+use Rattle.listing.specs.declared.Line.{Line}
+use Rattle.listing.specs.declared.Line.the-variants.{Refused, Length}
+use Rattle.fields.specs.Fields.{pick}
+use Rattle.isa.specs.Numbers.{unreadNumber}
+use Rattle.reading.specs.Reading.{readOf}
+use Rattle.text.specs.Text.{bytes, padded}
+use Rattle.text.specs.Numerals.{decimal, hex}
+use Rattle.operands.specs.Operands.{operandsText}
+use Rattle.names.specs.Names.{name}
+use Rattle.shown.specs.Shown.{shownOf}
+
+-- ---- an instruction
+
+abbrev pub letter : Width → ℕ
+letter B = 66
+letter H = 72
+letter W = 87
+letter D = 68
+
+abbrev pub formText : Form → List ℕ
+formText Bare = []
+formText (Each df) = bytes "." ++ letter df ∷ []
+formText Whole = bytes ".V"
+
+abbrev pub shownText : Shown → List ℕ
+shownText s = name (s .name) ++ formText (s .form) ++ bytes " " ++ operandsText (s .a) (s .b) (s .c) (s .d)
+
+-- ---- a word
+
+abbrev pub readText : Read → List ℕ
+readText (Not u) = bytes "; " ++ decimal (unreadNumber u)
+readText (Instr i) = shownText (shownOf i)
+
+abbrev pub textOf : ℕ → List ℕ
+textOf w = readText (readOf w)
+
+unfoldable pub lineOf : ℕ → ℕ → List ℕ
+lineOf address w = hex address ++ bytes ": " ++ hex w ++ bytes " " ++ textOf w
+
+-- ---- what writing a line promises
+
+-- 0 where the line was written
+abbrev pub lineNumber : Line → ℕ
+lineNumber Refused = 7
+lineNumber (Length n) = 0
+
+-- a line of 64 bytes takes the text and then blanks; any other is refused, and stays as it is
+abbrev pub lineAnswer : List ℕ → ℕ → ℕ → Line
+lineAnswer line address w = pick (eqb (length line) 64) (Length (length (lineOf address w))) Refused
+
+abbrev pub lineAfter : List ℕ → ℕ → ℕ → List ℕ
+lineAfter line address w = pick (eqb (length line) 64) (padded 64 (lineOf address w)) line
+
+pub record Lists (before : List ℕ) (address w : ℕ) (answer : Line) (after : List ℕ) : Type 0 where
+  pub answered : answer ≡ lineAnswer before address w
+  pub line : after ≡ lineAfter before address w
+  pub number : lineNumber answer ≡ pick (eqb (length before) 64) 0 7

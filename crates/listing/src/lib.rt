@@ -1,0 +1,131 @@
+// The listing: the line of a word in a lent line of 64 bytes.
+use isa::Read;
+use isa::Unread;
+use isa::Width;
+use names::put_name;
+use operands::put_operands;
+use reading::read_word;
+use shown::Form;
+use shown::Shown;
+use shown::shown_of;
+use text::blank;
+use text::put_byte;
+use text::put_decimal;
+use text::put_hex;
+use text::put_text;
+ghost use mathlib.Core.Path.{_≡_};
+ghost use mathlib.Core.List.{_++_};
+ghost use Rattle.isa.specs.Numbers.{readNumber, unreadNumber};
+ghost use Rattle.shown.specs.declared.Form.the-variants as form;
+ghost use Rattle.text.specs.Text.{bytes, Room, Puts};
+ghost use Rattle.text.specs.Numerals.{decimal};
+ghost use Rattle.listing.specs.Listing as listing;
+
+// What writing a line answers: 7, or the line's length.
+pub enum Line {
+    Refused,
+    Length(usize),
+}
+
+fn letter(df: Width) -> u8
+    ensures { λ r. ⌜ r ≡ listing.letter df ⌝ }
+{
+    match df {
+        Width::B => b'B',
+        Width::H => b'H',
+        Width::W => b'W',
+        Width::D => b'D',
+    }
+}
+
+fn put_letter(line: &mut [u8], at: usize, df: Width) -> usize
+    requires { ⌜ Room (now line) at (listing.formText (form.Each df)) ⌝ }
+    ensures { λ r. ⌜ Puts (now (line .entry)) at (listing.formText (form.Each df)) (now (line .exit)) r ⌝ }
+{
+    let next = put_byte(line, at, b'.');
+    put_byte(line, next, letter(df))
+}
+
+fn put_form(line: &mut [u8], at: usize, f: Form) -> usize
+    requires { ⌜ Room (now line) at (listing.formText f) ⌝ }
+    ensures { λ r. ⌜ Puts (now (line .entry)) at (listing.formText f) (now (line .exit)) r ⌝ }
+{
+    match f {
+        Form::Bare => at,
+        Form::Each(df) => put_letter(line, at, df),
+        Form::Whole => put_text(line, at, b".V"),
+    }
+}
+
+fn put_shown(line: &mut [u8], at: usize, s: Shown) -> usize
+    requires { ⌜ Room (now line) at (listing.shownText s) ⌝ }
+    ensures { λ r. ⌜ Puts (now (line .entry)) at (listing.shownText s) (now (line .exit)) r ⌝ }
+{
+    let form = s.form;
+    let a = s.a;
+    let b = s.b;
+    let c = s.c;
+    let d = s.d;
+    let form_at = put_name(line, at, s.name as usize);
+    let blank_at = put_form(line, form_at, form);
+    let first_at = put_byte(line, blank_at, b' ');
+    put_operands(line, first_at, a, b, c, d)
+}
+
+fn read_number(r: Read) -> u32
+    ensures { λ n. ⌜ n ≡ readNumber r ⌝ }
+{
+    match r {
+        Read::Not(u) => unread_number(u),
+        Read::Instr(_) => 0,
+    }
+}
+
+fn unread_number(u: Unread) -> u32
+    ensures { λ n. ⌜ n ≡ unreadNumber u ⌝ }
+{
+    match u {
+        Unread::Unassigned => 12,
+        Unread::LeftOut => 13,
+        Unread::Other => 14,
+    }
+}
+
+fn put_reason(line: &mut [u8], at: usize, number: u32) -> usize
+    requires { ⌜ Room (now line) at (bytes "; " ++ decimal number) ⌝ }
+    ensures { λ r. ⌜ Puts (now (line .entry)) at (bytes "; " ++ decimal number) (now (line .exit)) r ⌝ }
+{
+    let next = put_text(line, at, b"; ");
+    put_decimal(line, next, number)
+}
+
+fn put_read(line: &mut [u8], at: usize, read: Read) -> usize
+    requires { ⌜ Room (now line) at (listing.readText read) ⌝ }
+    ensures { λ r. ⌜ Puts (now (line .entry)) at (listing.readText read) (now (line .exit)) r ⌝ }
+{
+    let Read::Instr(i) = read else {
+        return put_reason(line, at, read_number(read));
+    };
+    put_shown(line, at, shown_of(i))
+}
+
+fn put_line(line: &mut [u8], address: u32, word: u32) -> usize
+    requires { ⌜ Room (now line) 0 (listing.lineOf address word) ⌝ }
+    ensures { λ r. ⌜ Puts (now (line .entry)) 0 (listing.lineOf address word) (now (line .exit)) r ⌝ }
+{
+    let colon_at = put_hex(line, 0, address);
+    let word_at = put_text(line, colon_at, b": ");
+    let blank_at = put_hex(line, word_at, word);
+    let text_at = put_byte(line, blank_at, b' ');
+    put_read(line, text_at, read_word(word))
+}
+
+pub fn write_line(line: &mut [u8], address: u32, word: u32) -> Line
+    ensures { λ r. ⌜ listing.Lists (now (line .entry)) address word r (now (line .exit)) ⌝ }
+{
+    if line.len() != 64 {
+        return Line::Refused;
+    }
+    blank(line);
+    Line::Length(put_line(line, address, word))
+}
