@@ -1,0 +1,5 @@
+pub mod BlockLaws
+pub mod EntryLaws
+pub mod KeptLaws
+pub mod LayoutLaws
+pub mod OneAnswer

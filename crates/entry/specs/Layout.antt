@@ -1,0 +1,38 @@
+-- Two facts of the layout: a block outside it is refused with 5, after 1 to 4; and a block that is written reads as it was.
+use mathlib.Core.Path.{_≡_}
+use mathlib.Core.Bool.{Bool, false, _&&_}
+use mathlib.Core.List.{List}
+use Prim.Native.Nat.{ℕ, _^_, _<_}
+use lib.Dec.{eqb, leb}
+use lib.ListN.{length}
+use Rattle.isa.specs.declared.Refusal.the-variants.{State}
+use Rattle.state.specs.declared.control.Control.{Control}
+use Rattle.state.specs.declared.setup.Setup.{Setup}
+use Rattle.state.specs.declared.setup.Setup.the-variants.{Accepted, Refused}
+use Rattle.state.specs.Machine.{Env, machine}
+use Rattle.state.specs.Setup.{refusal}
+use Rattle.entry.specs.Block.{field, decoded, encoded, targetOf}
+
+-- 24 bytes, a slot mark of 0 to 2, and a switch of 0 or 1
+abbrev pub inLayout : List ℕ → Bool
+inLayout b = eqb (length b) 24 && leb (field b 20 2) 2 && leb (field b 22 2) 1
+
+-- 5 in place of an acceptance
+abbrev pub orFive : Setup → Setup
+orFive Accepted = Refused State
+orFive (Refused r) = Refused r
+
+-- bytes outside the layout are answered as any other block with the same set-up, and with 5 where that is accepted
+abbrev pub OutsideRefused : Type 0
+OutsideRefused =
+    (p : List ℕ) (e : Env) (v g w b : List ℕ) (c : Control) → inLayout b ≡ false
+    → refusal p e (machine v g w (decoded b)) ≡ orFive (refusal p e (machine v g w c))
+
+-- what the fields' bytes can hold
+pub record InRange (c : Control) : Type 0 where
+  pub pc : c .pc < 2 ^ 64
+  pub target : targetOf (c .mark) < 2 ^ 64
+  pub csr : c .csr < 2 ^ 32
+
+abbrev pub RoundTrip : Type 0
+RoundTrip = (c : Control) → InRange c → decoded (encoded c) ≡ c

@@ -1,0 +1,5 @@
+pub mod Block
+pub mod Entry
+pub mod Kept
+pub mod Layout
+pub mod OneAnswer

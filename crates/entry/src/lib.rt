@@ -1,0 +1,70 @@
+// The C entry: one step or one run on numbers and byte slices. The slices go on to the machine as they are lent, so that no register and no
+// program word is copied; only the control block is read from its bytes and written back.
+mod block;
+mod numbers;
+
+use state::windows::Bases;
+ghost use mathlib.Core.Path.{_≡_};
+ghost use Rattle.state.specs.Machine.{env, machine};
+ghost use Rattle.machine.specs.Run.{wholeRun};
+ghost use Rattle.machine.specs.Step.{wholeStep};
+ghost use Rattle.entry.specs.Block.{decoded};
+ghost use Rattle.entry.specs.Entry.{bases, StepsTo, RunsTo};
+
+// One step: 0 where it is finished, else the number of the refusal or of the stop.
+#[no_mangle]
+pub extern "C" fn msa_step(
+    program: &[u8],
+    program_base: u64,
+    table: &[u8],
+    table_base: u64,
+    vectors: &mut [u8],
+    generals: &mut [u8],
+    work: &mut [u8],
+    work_base: u64,
+    control: &mut [u8],
+) -> u64
+    ensures { λ r. ⌜ StepsTo (wholeStep (now (program .entry)) (env (bases «program_base» «table_base» «work_base») (now (table .entry))) (machine (now (vectors .entry)) (now (generals .entry)) (now (work .entry)) (decoded (now (control .entry))))) r (now (vectors .exit)) (now (generals .exit)) (now (work .exit)) (now (control .entry)) (now (control .exit)) ⌝ }
+{
+    let bases = Bases {
+        program: program_base,
+        table: table_base,
+        work: work_base,
+    };
+    let c = block::control_of(control);
+    let a = machine::step::step(bases, program, table, vectors, generals, work, c);
+    let answer = a.answer;
+    let after = a.control;
+    let n = numbers::answer_number(answer);
+    block::settle(n == 0, after, control);
+    n as u64
+}
+
+// One run of at most budget instructions: the number of its reason, and 2^32 times the count of those that are finished.
+#[no_mangle]
+pub extern "C" fn msa_run(
+    program: &[u8],
+    program_base: u64,
+    table: &[u8],
+    table_base: u64,
+    vectors: &mut [u8],
+    generals: &mut [u8],
+    work: &mut [u8],
+    work_base: u64,
+    control: &mut [u8],
+    budget: u32,
+) -> u64
+    ensures { λ r. ⌜ RunsTo (wholeRun (now (program .entry)) (env (bases «program_base» «table_base» «work_base») (now (table .entry))) budget (machine (now (vectors .entry)) (now (generals .entry)) (now (work .entry)) (decoded (now (control .entry))))) r (now (vectors .exit)) (now (generals .exit)) (now (work .exit)) (now (control .entry)) (now (control .exit)) ⌝ }
+{
+    let bases = Bases {
+        program: program_base,
+        table: table_base,
+        work: work_base,
+    };
+    let c = block::control_of(control);
+    let end = machine::run::run(bases, program, table, vectors, generals, work, c, budget);
+    let reason = end.reason;
+    let after = end.control;
+    block::settle(0 < end.count, after, control);
+    numbers::reason_number(reason) as u64 + 4294967296 * (end.count as u64)
+}

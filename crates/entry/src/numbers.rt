@@ -1,0 +1,74 @@
+// Document 01's numbers of the answers, in code: the C entry has no other way to say them.
+use isa::Refusal;
+use isa::Stop;
+use isa::Unread;
+use machine::run::Reason;
+use machine::step::Answer;
+use machine::step::Outcome;
+ghost use mathlib.Core.Path.{_≡_};
+ghost use Rattle.isa.specs.Numbers.{refusalNumber, stopNumber, unreadNumber};
+ghost use Rattle.machine.specs.Numbers.{outcomeNumber, answerNumber, reasonNumber};
+
+fn refusal_number(r: Refusal) -> u8
+    ensures { λ n. ⌜ n ≡ refusalNumber r ⌝ }
+{
+    match r {
+        Refusal::Registers => 1,
+        Refusal::Program => 2,
+        Refusal::WindowSize => 3,
+        Refusal::SharedAddress => 4,
+        Refusal::State => 5,
+    }
+}
+
+fn unread_number(u: Unread) -> u8
+    ensures { λ n. ⌜ n ≡ unreadNumber u ⌝ }
+{
+    match u {
+        Unread::Unassigned => 12,
+        Unread::LeftOut => 13,
+        Unread::Other => 14,
+    }
+}
+
+fn stop_number(s: Stop) -> u8
+    ensures { λ n. ⌜ n ≡ stopNumber s ⌝ }
+{
+    match s {
+        Stop::NoWord => 11,
+        Stop::Unread(u) => unread_number(u),
+        Stop::BranchInSlot => 15,
+        Stop::SwitchedOff => 16,
+        Stop::NoWindow => 17,
+        Stop::ReadOnly => 18,
+        Stop::Trap => 19,
+    }
+}
+
+fn outcome_number(o: Outcome) -> u8
+    ensures { λ n. ⌜ n ≡ outcomeNumber o ⌝ }
+{
+    match o {
+        Outcome::Finished => 0,
+        Outcome::Stopped(s) => stop_number(s),
+    }
+}
+
+pub fn answer_number(a: Answer) -> u8
+    ensures { λ n. ⌜ n ≡ answerNumber a ⌝ }
+{
+    match a {
+        Answer::Refused(r) => refusal_number(r),
+        Answer::Ran(o) => outcome_number(o),
+    }
+}
+
+pub fn reason_number(e: Reason) -> u8
+    ensures { λ n. ⌜ n ≡ reasonNumber e ⌝ }
+{
+    match e {
+        Reason::Refused(r) => refusal_number(r),
+        Reason::Stopped(s) => stop_number(s),
+        Reason::Spent => 20,
+    }
+}

@@ -1,0 +1,283 @@
+/* Replays the shared cases of steps and runs (vectors/FORMAT.md) through the C entry
+ * and compares the answer, the count and every lent byte; then the control block's
+ * own limits. Usage: replay FILE.. ; ends with status 1 where anything differs.
+ *
+ * Each case is run four ways: as it stands; with a target that a mark other than 2
+ * must leave unread; a step also as a run of budget 1; a run also step by step.
+ */
+#include <inttypes.h>
+#include <stdio.h>
+#include <stdlib.h>
+#include <string.h>
+#include "../include/msa.h"
+
+enum { GUARD = 32 };
+
+struct bytes {
+    uint8_t *at;
+    size_t n;
+};
+
+/* n bytes with a guard behind them, which nothing may write */
+static struct bytes lend(size_t n) {
+    struct bytes b = {malloc(n + GUARD), n};
+    if (!b.at) exit(2);
+    memset(b.at + n, 0xA5, GUARD);
+    return b;
+}
+
+static struct bytes copy(struct bytes b) {
+    struct bytes c = lend(b.n);
+    memcpy(c.at, b.at, b.n);
+    return c;
+}
+
+static int same(struct bytes a, struct bytes b) {
+    for (int i = 0; i < GUARD; i++)
+        if (a.at[a.n + i] != 0xA5) return 0;
+    return a.n == b.n && memcmp(a.at, b.at, a.n) == 0;
+}
+
+static struct bytes hex(const char *s) {
+    unsigned long times = 1;
+    if (*s == '-') return lend(0);
+    if (*s == 'x') {
+        char *colon;
+        times = strtoul(s + 1, &colon, 10);
+        s = colon + 1;
+    }
+    size_t n = strspn(s, "0123456789abcdefABCDEF") / 2;
+    struct bytes b = lend(n * times);
+    for (size_t i = 0; i < n; i++) {
+        char two[3] = {s[2 * i], s[2 * i + 1], 0};
+        b.at[i] = (uint8_t)strtoul(two, NULL, 16);
+    }
+    for (size_t i = n; i < n * times; i++) b.at[i] = b.at[i - n];
+    return b;
+}
+
+static void put(uint8_t *at, unsigned n, uint64_t x) {
+    for (unsigned i = 0; i < n; i++) at[i] = (uint8_t)(x >> 8 * i);
+}
+
+static struct bytes block(uint64_t pc, uint64_t target, uint32_t msacsr, uint16_t mark, uint16_t on) {
+    struct bytes b = lend(MSA_CONTROL_BYTES);
+    put(b.at + MSA_CONTROL_PC, 8, pc);
+    put(b.at + MSA_CONTROL_TARGET, 8, target);
+    put(b.at + MSA_CONTROL_MSACSR, 4, msacsr);
+    put(b.at + MSA_CONTROL_MARK, 2, mark);
+    put(b.at + MSA_CONTROL_SWITCH, 2, on);
+    return b;
+}
+
+static struct bytes block_of(const char *s) {
+    uint64_t pc, target;
+    unsigned mark, on;
+    uint32_t msacsr;
+    if (sscanf(s, "%" SCNx64 " %u %" SCNx64 " %" SCNx32 " %u", &pc, &mark, &target, &msacsr, &on) != 5) exit(2);
+    return block(pc, target, msacsr, (uint16_t)mark, (uint16_t)on);
+}
+
+/* what is lent, and what must come back */
+struct lent {
+    struct bytes vectors, generals, work, control;
+};
+
+struct test {
+    char name[64];
+    int run;
+    struct bytes program, table;
+    uint64_t program_base, table_base, work_base;
+    uint32_t budget, reason, count;
+    struct lent before, after;
+};
+
+static uint64_t step(const struct test *t, struct lent *l) {
+    return msa_step(t->program.at, t->program.n, t->program_base, t->table.at, t->table.n, t->table_base,
+                    l->vectors.at, l->vectors.n, l->generals.at, l->generals.n, l->work.at, l->work.n, t->work_base,
+                    l->control.at, l->control.n);
+}
+
+static uint64_t run(const struct test *t, struct lent *l, uint32_t budget) {
+    return msa_run(t->program.at, t->program.n, t->program_base, t->table.at, t->table.n, t->table_base,
+                   l->vectors.at, l->vectors.n, l->generals.at, l->generals.n, l->work.at, l->work.n, t->work_base,
+                   l->control.at, l->control.n, budget);
+}
+
+static uint64_t answer(uint32_t reason, uint32_t count) { return reason + ((uint64_t)count << 32); }
+
+/* the run's answer by steps alone */
+static uint64_t steps(const struct test *t, struct lent *l) {
+    for (uint32_t count = 0; count < t->budget; count++) {
+        uint64_t n = step(t, l);
+        if (n) return answer((uint32_t)n, count);
+    }
+    return answer(MSA_SPENT, t->budget);
+}
+
+static unsigned differences;
+
+/* one way of a case: how is 's' step, 'r' run, '1' the step as a run of 1, 'n' the run by steps */
+static int agrees(const struct test *t, char how, struct bytes control, struct bytes control_after) {
+    struct lent l = {copy(t->before.vectors), copy(t->before.generals), copy(t->before.work), copy(control)};
+    uint64_t want = t->run ? answer(t->reason, t->count) : t->reason;
+    uint64_t got;
+    switch (how) {
+    case 's': got = step(t, &l); break;
+    case 'r': got = run(t, &l, t->budget); break;
+    case '1':
+        got = run(t, &l, 1);
+        want = t->reason ? answer(t->reason, 0) : answer(MSA_SPENT, 1);
+        break;
+    default: got = steps(t, &l);
+    }
+    const char *part = got != want ? "answer"
+                       : !same(l.vectors, t->after.vectors) ? "vectors"
+                       : !same(l.generals, t->after.generals) ? "generals"
+                       : !same(l.work, t->after.work) ? "work"
+                       : !same(l.control, control_after) ? "control" : NULL;
+    if (part) {
+        differences++;
+        printf("%s (%c): %s; answer %" PRIx64 ", expected %" PRIx64 "\n", t->name, how, part, got, want);
+    }
+    free(l.vectors.at);
+    free(l.generals.at);
+    free(l.work.at);
+    free(l.control.at);
+    return part == NULL;
+}
+
+static int check(const struct test *t) {
+    int fine = agrees(t, t->run ? 'r' : 's', t->before.control, t->after.control);
+    if (!t->run) fine &= agrees(t, '1', t->before.control, t->after.control);
+    else if (t->budget != 0 && t->count < 100000) fine &= agrees(t, 'n', t->before.control, t->after.control);
+    if (t->before.control.at[MSA_CONTROL_MARK] != MSA_MARK_TAKEN) {
+        /* a target that is no multiple of 4 stays unread; it is kept where nothing was finished, else 0 is written */
+        int finished = t->run ? t->count != 0 : t->reason == MSA_FINISHED;
+        struct bytes odd = copy(t->before.control), odd_after;
+        put(odd.at + MSA_CONTROL_TARGET, 8, 0xFEDCBA9876543211);
+        odd_after = copy(finished ? t->after.control : odd);
+        fine &= agrees(t, t->run ? 'r' : 's', odd, odd_after);
+        free(odd.at);
+        free(odd_after.at);
+    }
+    return fine;
+}
+
+static void replay(const char *name) {
+    static char line[1 << 23];
+    struct test t;
+    unsigned cases = 0, agree = 0;
+    FILE *f = fopen(name, "r");
+    if (!f) {
+        printf("%s: cannot be read\n", name);
+        differences++;
+        return;
+    }
+    memset(&t, 0, sizeof t);
+    while (fgets(line, sizeof line, f)) {
+        char *s = line + 2;
+        line[strcspn(line, "\r\n")] = 0;
+        if (!strncmp(line, "case ", 5)) {
+            char kind[8];
+            memset(&t, 0, sizeof t);
+            sscanf(line, "case %63s %7s", t.name, kind);
+            t.run = !strcmp(kind, "run");
+        } else if (!strcmp(line, "end")) {
+            cases++;
+            agree += (unsigned)check(&t);
+        } else if (line[0] == '#' || line[1] != ' ') {
+            continue;
+        } else switch (line[0]) {
+        case 'v': t.before.vectors = hex(s); break;
+        case 'g': t.before.generals = hex(s); break;
+        case 'p': t.program_base = strtoull(s, &s, 16); t.program = hex(s + 1); break;
+        case 't': t.table_base = strtoull(s, &s, 16); t.table = hex(s + 1); break;
+        case 'w': t.work_base = strtoull(s, &s, 16); t.before.work = hex(s + 1); break;
+        case 'c': t.before.control = block_of(s); break;
+        case 'b': t.budget = (uint32_t)strtoul(s, NULL, 10); break;
+        case '=': t.reason = (uint32_t)strtoul(s, &s, 10); t.count = (uint32_t)strtoul(s, NULL, 10); break;
+        case 'V': t.after.vectors = *s == '=' ? t.before.vectors : hex(s); break;
+        case 'G': t.after.generals = *s == '=' ? t.before.generals : hex(s); break;
+        case 'W': t.after.work = *s == '=' ? t.before.work : hex(s); break;
+        case 'C': t.after.control = block_of(s); break;
+        }
+    }
+    fclose(f);
+    const char *base = strrchr(name, '/');
+    printf("%s: %u of %u cases agree\n", base ? base + 1 : name, agree, cases);
+}
+
+/* one control block on a set-up that is good but for it: a one-word program, ADDV.W $w5,$w1,$w2 */
+static int block_answers(struct bytes control, uint32_t reason) {
+    static uint8_t program[4] = {0x4E, 0x09, 0x42, 0x78};
+    struct test t = {.name = "block", .program = {program, 4}, .table = lend(0), .program_base = 0x1000, .reason = reason};
+    t.before.vectors = lend(512);
+    t.before.generals = lend(256);
+    t.before.work = lend(16);
+    memset(t.before.vectors.at, 1, 512);
+    memset(t.before.generals.at, 0, 256);
+    t.after = t.before;
+    t.after.vectors = copy(t.before.vectors);
+    if (reason == MSA_FINISHED)
+        for (int i = 0; i < 16; i++) t.after.vectors.at[16 * 5 + i] = 2;
+    struct bytes after = copy(control);
+    if (reason == MSA_FINISHED) {
+        int taken = control.at[MSA_CONTROL_MARK] == MSA_MARK_TAKEN;
+        if (taken) memcpy(after.at + MSA_CONTROL_PC, control.at + MSA_CONTROL_TARGET, 8);
+        else put(after.at + MSA_CONTROL_PC, 8, 0x1004);
+        put(after.at + MSA_CONTROL_TARGET, 8, 0);
+        put(after.at + MSA_CONTROL_MARK, 2, MSA_MARK_CLEAR);
+    }
+    int fine = agrees(&t, 's', control, after) & agrees(&t, '1', control, after);
+    if (reason == 5) {
+        /* the limits 1 to 4 come first */
+        struct test u = t;
+        u.after.vectors = u.before.vectors = lend(511);
+        u.reason = 1;
+        fine &= agrees(&u, 's', control, after) & agrees(&u, '1', control, after);
+        u = t;
+        u.after.vectors = t.before.vectors;
+        u.program_base = 0x1002;
+        u.reason = 2;
+        fine &= agrees(&u, 's', control, after) & agrees(&u, '1', control, after);
+        u.program_base = 0x1000;
+        u.work_base = UINT64_MAX;
+        u.reason = 3;
+        fine &= agrees(&u, 's', control, after) & agrees(&u, '1', control, after);
+        u.table = lend(16);
+        u.work_base = u.table_base = 0x2000;
+        u.reason = 4;
+        fine &= agrees(&u, 's', control, after) & agrees(&u, '1', control, after);
+    }
+    return fine;
+}
+
+/* blocks of every length to 49, and every number of mark and switch with a bit in each place */
+static void blocks(void) {
+    unsigned cases = 0, agree = 0;
+    for (size_t n = 0; n < 50; n++) {
+        struct bytes b = lend(n), good = block(0x1000, 0, 0, 0, 1);
+        memset(b.at, 0, n);
+        memcpy(b.at, good.at, n < 24 ? n : 24);
+        cases++;
+        agree += (unsigned)block_answers(b, n == 24 ? MSA_FINISHED : MSA_REFUSED_STATE);
+    }
+    for (unsigned mark = 0; mark < 65536; mark = mark < 4 ? mark + 1 : 2 * mark)
+        for (unsigned on = 0; on < 65536; on = on < 4 ? on + 1 : 2 * on) {
+            uint32_t reason = mark > 2 || on > 1 ? MSA_REFUSED_STATE : on == 0 ? MSA_SWITCHED_OFF : MSA_FINISHED;
+            cases++;
+            agree += (unsigned)block_answers(block(0x1000, mark == 2 ? 0x2000 : 0x2001, 0x0107FFFF, (uint16_t)mark, (uint16_t)on), reason);
+        }
+    cases += 3;
+    agree += (unsigned)block_answers(block(0x1002, 0, 0, 0, 1), MSA_REFUSED_STATE);
+    agree += (unsigned)block_answers(block(0x1000, 0x2001, 0, 2, 1), MSA_REFUSED_STATE);
+    agree += (unsigned)block_answers(block(0x1000, 0, 0x00080000, 0, 1), MSA_REFUSED_STATE);
+    printf("control blocks: %u of %u cases agree\n", agree, cases);
+}
+
+int main(int n, char **names) {
+    for (int i = 1; i < n; i++) replay(names[i]);
+    blocks();
+    return differences != 0;
+}
