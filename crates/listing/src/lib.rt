@@ -109,11 +109,12 @@ fn put_read(line: &mut [u8], at: usize, read: Read) -> usize
     put_shown(line, at, shown_of(i))
 }
 
-fn put_line(line: &mut [u8], address: u32, word: u32) -> usize
-    requires { ⌜ Room (now line) 0 (listing.lineOf address word) ⌝ }
-    ensures { λ r. ⌜ Puts (now (line .entry)) 0 (listing.lineOf address word) (now (line .exit)) r ⌝ }
+// The writer on a slice and a number: the line of a word from a place on, and the place behind it.
+pub fn put_line(line: &mut [u8], at: usize, address: u32, word: u32) -> usize
+    requires { ⌜ Room (now line) at (listing.lineOf address word) ⌝ }
+    ensures { λ r. ⌜ Puts (now (line .entry)) at (listing.lineOf address word) (now (line .exit)) r ⌝ }
 {
-    let colon_at = put_hex(line, 0, address);
+    let colon_at = put_hex(line, at, address);
     let word_at = put_text(line, colon_at, b": ");
     let blank_at = put_hex(line, word_at, word);
     let text_at = put_byte(line, blank_at, b' ');
@@ -127,5 +128,5 @@ pub fn write_line(line: &mut [u8], address: u32, word: u32) -> Line
         return Line::Refused;
     }
     blank(line);
-    Line::Length(put_line(line, address, word))
+    Line::Length(put_line(line, 0, address, word))
 }

@@ -1,0 +1,27 @@
+// The listing writer as a struct: the lent line and the place of what comes next. Each function here is proved by a walk of its MIR, by
+// hand; the work is `listing::put_line`'s, on a slice and a number.
+use listing::put_line;
+ghost use mathlib.Core.Path.{_≡_};
+ghost use Rattle.text.specs.Text.{Room, Puts};
+ghost use Rattle.listing.specs.Listing.{lineOf};
+
+pub struct LineWriter<'a> {
+    pub line: &'a mut [u8],
+    pub at: usize,
+}
+
+// The borrow goes into the writer, and the place is the start.
+pub fn new<'a>(line: &'a mut [u8]) -> LineWriter<'a>
+    ensures { λ r. ⌜ (r .line ≡ line .entry) × (r .at ≡ 0) ⌝ }
+{
+    LineWriter { line: line, at: 0 }
+}
+
+// Writes the line of a word at the writer's place, and says where the next byte goes.
+pub fn put<'a>(w: LineWriter<'a>, address: u32, word: u32) -> usize
+    requires { ⌜ Room (now (w .line)) (w .at) (lineOf address word) ⌝ }
+    ensures { λ r. ⌜ Puts (now (w .entry .line)) (w .entry .at) (lineOf address word) (now (w .exit .0)) r ⌝ }
+{
+    let at = w.at;
+    put_line(&mut *w.line, at, address, word)
+}
