@@ -25,3 +25,11 @@ pub fn put<'a>(w: LineWriter<'a>, address: u32, word: u32) -> usize
     let at = w.at;
     put_line(&mut *w.line, at, address, word)
 }
+
+// From a slice to a writer and back: its contract says nothing of a writer, so whoever calls it needs no walk by hand.
+pub fn fill(line: &mut [u8], address: u32, word: u32) -> usize
+    requires { ⌜ Room (now line) 0 (lineOf address word) ⌝ }
+    ensures { λ r. ⌜ Puts (now (line .entry)) 0 (lineOf address word) (now (line .exit)) r ⌝ }
+{
+    put(new(line), address, word)
+}
