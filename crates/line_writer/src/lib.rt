@@ -1,9 +1,11 @@
-// The listing writer as a struct: the lent line and the place of what comes next. Each function here is proved by a walk of its MIR, by
-// hand; the work is `listing::put_line`'s, on a slice and a number.
+// The listing writer as a struct: the lent line and the place of what comes next. `new`, `put` and `fill` are proved by
+// a walk of their MIR, by hand; the work is `listing::put_line`'s, on a slice and a number.
+use listing::Line;
 use listing::put_line;
+use text::blank;
 ghost use mathlib.Core.Path.{_≡_};
 ghost use Rattle.text.specs.Text.{Room, Puts};
-ghost use Rattle.listing.specs.Listing.{lineOf};
+ghost use Rattle.listing.specs.Listing.{lineOf, Lists};
 
 pub struct LineWriter<'a> {
     pub line: &'a mut [u8],
@@ -32,4 +34,15 @@ pub fn fill(line: &mut [u8], address: u32, word: u32) -> usize
     ensures { λ r. ⌜ Puts (now (line .entry)) 0 (lineOf address word) (now (line .exit)) r ⌝ }
 {
     put(new(line), address, word)
+}
+
+// The line of a word and then blanks, in a lent line of 64 bytes; any other length is refused.
+pub fn write_line(line: &mut [u8], address: u32, word: u32) -> Line
+    ensures { λ r. ⌜ Lists (now (line .entry)) address word r (now (line .exit)) ⌝ }
+{
+    if line.len() != 64 {
+        return Line::Refused;
+    }
+    blank(line);
+    Line::Length(fill(line, address, word))
 }

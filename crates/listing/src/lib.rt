@@ -1,4 +1,4 @@
-// The listing: the line of a word in a lent line of 64 bytes.
+// The listing: the line of a word, written from a place of a lent line on.
 use isa::Read;
 use isa::Unread;
 use isa::Width;
@@ -8,7 +8,6 @@ use reading::read_word;
 use shown::Form;
 use shown::Shown;
 use shown::shown_of;
-use text::blank;
 use text::put_byte;
 use text::put_decimal;
 use text::put_hex;
@@ -119,14 +118,4 @@ pub fn put_line(line: &mut [u8], at: usize, address: u32, word: u32) -> usize
     let blank_at = put_hex(line, word_at, word);
     let text_at = put_byte(line, blank_at, b' ');
     put_read(line, text_at, read_word(word))
-}
-
-pub fn write_line(line: &mut [u8], address: u32, word: u32) -> Line
-    ensures { λ r. ⌜ listing.Lists (now (line .entry)) address word r (now (line .exit)) ⌝ }
-{
-    if line.len() != 64 {
-        return Line::Refused;
-    }
-    blank(line);
-    Line::Length(put_line(line, 0, address, word))
 }
