@@ -1,6 +1,6 @@
 // Lists the little-endian words of standard input, base 0: one line a word, then what is left over.
+use line_writer::write_line;
 use listing::Line;
-use listing::write_line;
 
 fn half_of(a: u8, b: u8) -> u16 {
     a as u16 + b as u16 * 256

@@ -1,7 +1,7 @@
 // Runs the lines of standard input through write_line, and counts how many agree, blanks and length too.
 // tools/list_vectors.py says what stands in a record of 73 bytes.
+use line_writer::write_line;
 use listing::Line;
-use listing::write_line;
 use std::num::wrapping_add_u64;
 
 fn half_of(a: u8, b: u8) -> u16 {

@@ -1,4 +1,4 @@
--- A line says its address and its word. Assumes nothing.
+-- A line says its address and its word, and what writing one promises leaves one answer and one line. Assumes nothing.
 use mathlib.Core.Path.{_≡_, sym, _∙_}
 use mathlib.Core.List.{List, _++_}
 use Prim.Native.Nat.{ℕ, _+_, _<_}
@@ -8,7 +8,8 @@ use Rattle.text.specs.Text.{bytes}
 use Rattle.text.specs.Numerals.{hex}
 use Rattle.text.proofs.Numerals.{hex-length}
 use Rattle.text.proofs.Same.{parts, hex-same}
-use Rattle.listing.specs.Listing.{textOf, lineOf}
+use Rattle.listing.specs.declared.Line.{Line}
+use Rattle.listing.specs.Listing.{textOf, lineOf, Lists}
 use Rattle.listing.proofs.Lines.{line-text}
 
 address-long : (a : ℕ) → length (hex a ++ bytes ": ") ≡ 10
@@ -29,3 +30,6 @@ same-line a w a′ w′ ha hw ha′ hw′ e =
     let both = parts 10 (address-long a) (address-long a′) (front .0) in
     let address = parts 8 (hex-length a) (hex-length a′) (both .0) in
     (hex-same a a′ ha ha′ (address .0), hex-same w w′ hw hw′ (both .1), whole .1)
+
+pub line-unique : (before : List ℕ) (a w : ℕ) (r s : Line) (after after′ : List ℕ) → Lists before a w r after → Lists before a w s after′ → (r ≡ s) × (after ≡ after′)
+line-unique before a w r s after after′ p q = (p .answered ∙ sym (q .answered), p .line ∙ sym (q .line))

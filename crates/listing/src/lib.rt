@@ -1,4 +1,4 @@
-// The listing: the line of a word in a lent line of 64 bytes.
+// The listing: the line of a word, written from a place of a lent line on.
 use isa::Read;
 use isa::Unread;
 use isa::Width;
@@ -8,7 +8,6 @@ use reading::read_word;
 use shown::Form;
 use shown::Shown;
 use shown::shown_of;
-use text::blank;
 use text::put_byte;
 use text::put_decimal;
 use text::put_hex;
@@ -109,23 +108,14 @@ fn put_read(line: &mut [u8], at: usize, read: Read) -> usize
     put_shown(line, at, shown_of(i))
 }
 
-fn put_line(line: &mut [u8], address: u32, word: u32) -> usize
-    requires { ⌜ Room (now line) 0 (listing.lineOf address word) ⌝ }
-    ensures { λ r. ⌜ Puts (now (line .entry)) 0 (listing.lineOf address word) (now (line .exit)) r ⌝ }
+// The writer on a slice and a number: the line of a word from a place on, and the place behind it.
+pub fn put_line(line: &mut [u8], at: usize, address: u32, word: u32) -> usize
+    requires { ⌜ Room (now line) at (listing.lineOf address word) ⌝ }
+    ensures { λ r. ⌜ Puts (now (line .entry)) at (listing.lineOf address word) (now (line .exit)) r ⌝ }
 {
-    let colon_at = put_hex(line, 0, address);
+    let colon_at = put_hex(line, at, address);
     let word_at = put_text(line, colon_at, b": ");
     let blank_at = put_hex(line, word_at, word);
     let text_at = put_byte(line, blank_at, b' ');
     put_read(line, text_at, read_word(word))
-}
-
-pub fn write_line(line: &mut [u8], address: u32, word: u32) -> Line
-    ensures { λ r. ⌜ listing.Lists (now (line .entry)) address word r (now (line .exit)) ⌝ }
-{
-    if line.len() != 64 {
-        return Line::Refused;
-    }
-    blank(line);
-    Line::Length(put_line(line, address, word))
 }
