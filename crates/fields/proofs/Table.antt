@@ -1,6 +1,6 @@
 -- A table's rule: one computed test of every entry with its place, and the law that turns it into the rule at each place.
 -- Assumes nothing.
-use mathlib.Core.Path.{_≡_, refl, _∙_, sym, subst}
+use mathlib.Core.Path.{_≡_, _∙_, sym, subst}
 use mathlib.Core.Bool.{Bool, true}
 use mathlib.Core.List.{List, [], _∷_}
 use Prim.Native.Nat.{ℕ, zero, suc, _+_}
