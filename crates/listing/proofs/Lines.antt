@@ -1,12 +1,12 @@
 -- No line is longer than 64 bytes, and what writing one answers. Assumes nothing.
 use mathlib.Core.Path.{_≡_, refl, sym, ap, _∙_, subst}
 use mathlib.Core.Bool.{Bool, true, false}
-use mathlib.Core.List.{List, [], _∷_, _++_}
+use mathlib.Core.List.{List, _++_}
 use Prim.Native.Nat.{ℕ, _+_, _≤_}
 use native.Mathlib.Omega.{arith}
 use borrow.Author.Tests.{leb-true, eq-eqb, ne-eqb}
 use lib.Dec.{eqb, leb}
-use lib.ListN.{length, replicate, length-append, length-replicate}
+use lib.ListN.{length, replicate, length-append}
 use Rattle.isa.specs.declared.Element.{Element}
 use Rattle.isa.specs.declared.Element.the-variants as element
 use Rattle.isa.specs.declared.Instr.{Instr}
@@ -21,11 +21,10 @@ use Rattle.listing.specs.declared.Line.the-variants.{Refused, Length}
 use Rattle.fields.specs.Fields.{pick}
 use Rattle.isa.specs.Numbers.{unreadNumber}
 use Rattle.reading.specs.Reading.{readOf}
-use Rattle.text.specs.Text.{bytes, Room, Puts, padded}
-use Rattle.text.specs.Numerals.{decimal, hex}
+use Rattle.text.specs.Text.{bytes, Room, Puts}
+use Rattle.text.specs.Numerals.{hex}
 use Rattle.text.proofs.Numerals.{decimal-length, hex-length}
 use Rattle.text.proofs.Puts.{puts-padded}
-use Rattle.operands.specs.Operands.{operandsText}
 use Rattle.operands.proofs.Lengths.{mostOf, operands-fit}
 use Rattle.names.specs.Names.{name}
 use Rattle.names.proofs.Names.{length-small}

@@ -2,7 +2,7 @@
 use mathlib.Core.Path.{_≡_, refl, sym, ap, ap₂}
 use mathlib.Core.Bool.{Bool, true, false}
 use mathlib.Core.List.{List, [], _∷_, _++_, map}
-use Prim.Native.Nat.{ℕ, zero, suc, _*_, _≤_, _<_}
+use Prim.Native.Nat.{ℕ, _*_, _≤_}
 use Prim.Native.String.{String}
 use native.Mathlib.Omega.{arith}
 use borrow.Author.Tests.{eqb-true, leb-true}
@@ -10,7 +10,7 @@ use lib.Dec.{eqb, leb}
 use lib.ListN.{length, getD, take, drop, List·getD-map, List·getD-eq-default}
 use Rattle.fields.specs.Fields.{both}
 use Rattle.fields.proofs.Fields.{both-left, both-right}
-use Rattle.fields.proofs.Table.{every, at}
+use Rattle.fields.proofs.Table.{at}
 use Rattle.text.specs.Text.{bytes, padded}
 use Rattle.names.specs.Names.{names, name}
 

@@ -2,7 +2,7 @@
 use Rattle.listing.specs.Listing as listing
 use Rattle.text.proofs.Puts.{puts-none, puts-as, room-as}
 use borrow.Author.Needs.{needs}
-use mathlib.Core.Path.{_≡_, sym, ap}
+use mathlib.Core.Path.{sym, ap}
 use Rattle.listing.proofs.put_form.Statement.{statement}
 use Rattle.listing.proofs.put_form.Tie as tie
 

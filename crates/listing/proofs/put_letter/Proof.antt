@@ -3,7 +3,7 @@ use Prim.Native.Nat.{ℕ}
 use Rattle.text.proofs.Puts.{puts-as, puts-then}
 use borrow.Author.Needs.{needs}
 use mathlib.Core.List.{[], _∷_}
-use mathlib.Core.Path.{_≡_, ap}
+use mathlib.Core.Path.{ap}
 use Rattle.listing.proofs.put_letter.Statement.{statement}
 use Rattle.listing.proofs.put_letter.Tie as tie
 

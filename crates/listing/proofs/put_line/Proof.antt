@@ -5,7 +5,7 @@ use Rattle.text.proofs.Puts.{puts-as, puts-then, room-as, room-left, room-right
 use Rattle.text.specs.Numerals.{hex}
 use Rattle.text.specs.Text.{bytes}
 use borrow.Author.Needs.{needs}
-use mathlib.Core.Path.{_≡_, sym, ap}
+use mathlib.Core.Path.{sym, ap}
 use Rattle.listing.proofs.put_line.Statement.{statement}
 use Rattle.listing.proofs.put_line.Tie as tie
 

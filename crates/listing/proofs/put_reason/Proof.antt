@@ -1,6 +1,5 @@
 -- `listing::put_reason` meets its contract. Assumes nothing.
 use Rattle.text.proofs.Puts.{puts-then}
-use Rattle.text.specs.Numerals.{decimal}
 use borrow.Author.Needs.{needs}
 use Rattle.listing.proofs.put_reason.Statement.{statement}
 use Rattle.listing.proofs.put_reason.Tie as tie

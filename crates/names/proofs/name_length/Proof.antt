@@ -1,6 +1,4 @@
 -- `names::name_length` meets its contract. Assumes nothing.
-use mathlib.Core.Path.{_≡_}
-use Prim.Native.Nat.{_≤_}
 use Rattle.names.proofs.Names.{length-right, length-small}
 use borrow.Author.Needs.{needs}
 use Rattle.names.proofs.name_length.Statement.{statement}

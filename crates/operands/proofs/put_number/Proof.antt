@@ -5,7 +5,7 @@ use Rattle.text.proofs.Puts.{puts-as, puts-then, room-as, room-left, room-right
 use Rattle.text.specs.Numerals.{decimal}
 use Rattle.text.specs.Text.{bytes}
 use borrow.Author.Needs.{needs}
-use mathlib.Core.Bool.{Bool, true, false}
+use mathlib.Core.Bool.{Bool}
 use mathlib.Core.List.{List, [], _++_}
 use mathlib.Core.List.{_++_}
 use mathlib.Core.Path.{_≡_, sym, ap}

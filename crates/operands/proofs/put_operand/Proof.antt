@@ -2,7 +2,7 @@
 use Rattle.operands.specs.Operands as operands
 use Rattle.text.proofs.Puts.{puts-none, puts-as, room-as}
 use borrow.Author.Needs.{needs}
-use mathlib.Core.Path.{_≡_, sym, ap}
+use mathlib.Core.Path.{sym, ap}
 use Rattle.operands.proofs.put_operand.Statement.{statement}
 use Rattle.operands.proofs.put_operand.Tie as tie
 

@@ -1,6 +1,5 @@
 -- `operands::put_register` meets its contract. Assumes nothing.
 use Rattle.text.proofs.Puts.{puts-then}
-use Rattle.text.specs.Numerals.{decimal}
 use borrow.Author.Needs.{needs}
 use Rattle.operands.proofs.put_register.Statement.{statement}
 use Rattle.operands.proofs.put_register.Tie as tie

@@ -1,6 +1,5 @@
 -- `operands::put_vector` meets its contract. Assumes nothing.
 use Rattle.text.proofs.Puts.{puts-then}
-use Rattle.text.specs.Numerals.{decimal}
 use borrow.Author.Needs.{needs}
 use Rattle.operands.proofs.put_vector.Statement.{statement}
 use Rattle.operands.proofs.put_vector.Tie as tie

@@ -1,5 +1,5 @@
 -- `shown::numbers::signed` meets its contract. Assumes nothing.
-use Prim.Native.Nat.{ℕ, _/_, _%_, _≤_, _<_}
+use Prim.Native.Nat.{_/_, _%_, _<_}
 use Rattle.shown.specs.declared.Number.{Number}
 use borrow.Author.Needs.{needs}
 use borrow.Author.Tests.{lt-ltb, le-ltb}
