@@ -1,0 +1,6 @@
+pub mod Scan
+pub mod Tokens
+pub mod Heads
+pub mod Rebuild
+pub mod Named
+pub mod SameText
