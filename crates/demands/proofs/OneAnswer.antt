@@ -1,7 +1,7 @@
 -- Two answers that meet a promise are one: both are what the definition says.
 -- Assumes nothing.
 use mathlib.Core.Path.{_≡_, sym, _∙_}
-use Rattle.demands.specs.OneAnswer.{OneAdvance, OneStep, OneRun}
+use Rattle.demands.specs.OneAnswer.{OneAdvance, OneStep, OneRun, OneValue}
 
 pub one-advance : OneAdvance
 one-advance s r r′ v v′ g g′ w w′ i j =
@@ -21,3 +21,6 @@ one-run s r r′ v v′ g g′ w w′ i j =
     let n = i .count ∙ sym (j .count) in
     let c = i .control ∙ sym (j .control) in
     (λ k. record { reason = a k; count = n k; control = c k }, i .vec ∙ sym (j .vec), i .gen ∙ sym (j .gen), i .work ∙ sym (j .work))
+
+pub one-value : OneValue
+one-value A d r r′ e f = e ∙ sym f

@@ -21,3 +21,7 @@ OneStep =
 -- `run::run`
 abbrev pub OneRun : Type 0
 OneRun = (s : Run) (r r′ : Ended) (v v′ g g′ w w′ : List ℕ) → RunIs s r v g w → RunIs s r′ v′ g′ w′ → (r ≡ r′) × (v ≡ v′) × (g ≡ g′) × (w ≡ w′)
+
+-- every other public function: its contract is an equation between its answer, or a lent buffer at exit, and a definition
+abbrev pub OneValue : Type 1
+OneValue = (A : Type 0) (d r r′ : A) → r ≡ d → r′ ≡ d → r ≡ r′
