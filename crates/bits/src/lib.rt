@@ -1,5 +1,5 @@
 // One element at a width, by bits: Table 4.2 with a data format, and SAT of Table 4.1.
-pub mod counts;
+mod counts;
 pub mod dispatch;
-pub mod places;
-pub mod shifts;
+mod places;
+mod shifts;

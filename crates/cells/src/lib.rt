@@ -170,7 +170,7 @@ pub enum BranchCell {
 }
 
 // The cell of 3R as a cell of any format.
-pub fn of_three(cell: ThreeCell) -> Cell
+fn of_three(cell: ThreeCell) -> Cell
     ensures { λ r. ⌜ r ≡ ofThree cell ⌝ }
 {
     match cell {

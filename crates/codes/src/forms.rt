@@ -6,7 +6,7 @@ use isa::Width;
 ghost use mathlib.Core.Path.{_≡_};
 ghost use Rattle.codes.specs.Forms as forms;
 
-pub fn not_b(df: Width) -> bool
+fn not_b(df: Width) -> bool
     ensures { λ r. ⌜ r ≡ forms.notB df ⌝ }
 {
     match df {
@@ -28,7 +28,7 @@ pub fn not_d(df: Width) -> bool
     }
 }
 
-pub fn arith_form(op: Arith, df: Width) -> bool
+fn arith_form(op: Arith, df: Width) -> bool
     ensures { λ r. ⌜ r ≡ forms.arithForm op df ⌝ }
 {
     match op {

@@ -30,7 +30,7 @@ ghost use mathlib.Core.Path.{_≡_};
 ghost use Prim.Native.Nat.{_<_};
 ghost use Rattle.codes.specs.Codes as codes;
 
-pub fn bitwise_code(x: Bitwise) -> u32
+fn bitwise_code(x: Bitwise) -> u32
     ensures { λ r. ⌜ (r ≡ codes.bitwiseCode x) × (r < 32) ⌝ }
 {
     match x {
@@ -45,7 +45,7 @@ pub fn bitwise_code(x: Bitwise) -> u32
     }
 }
 
-pub fn basic_code(x: Basic) -> u32
+fn basic_code(x: Basic) -> u32
     ensures { λ r. ⌜ (r ≡ codes.basicCode x) × (r < 32) ⌝ }
 {
     match x {
@@ -58,7 +58,7 @@ pub fn basic_code(x: Basic) -> u32
     }
 }
 
-pub fn absolute_code(x: Absolute) -> u32
+fn absolute_code(x: Absolute) -> u32
     ensures { λ r. ⌜ (r ≡ codes.absoluteCode x) × (r < 32) ⌝ }
 {
     match x {
@@ -67,7 +67,7 @@ pub fn absolute_code(x: Absolute) -> u32
     }
 }
 
-pub fn compare_code(x: Compare) -> u32
+fn compare_code(x: Compare) -> u32
     ensures { λ r. ⌜ (r ≡ codes.compareCode x) × (r < 32) ⌝ }
 {
     match x {
@@ -79,7 +79,7 @@ pub fn compare_code(x: Compare) -> u32
     }
 }
 
-pub fn addition_code(x: Addition) -> u32
+fn addition_code(x: Addition) -> u32
     ensures { λ r. ⌜ (r ≡ codes.additionCode x) × (r < 32) ⌝ }
 {
     match x {
@@ -94,7 +94,7 @@ pub fn addition_code(x: Addition) -> u32
     }
 }
 
-pub fn subtraction_code(x: Subtraction) -> u32
+fn subtraction_code(x: Subtraction) -> u32
     ensures { λ r. ⌜ (r ≡ codes.subtractionCode x) × (r < 32) ⌝ }
 {
     match x {
@@ -107,7 +107,7 @@ pub fn subtraction_code(x: Subtraction) -> u32
     }
 }
 
-pub fn product_code(x: Product) -> u32
+fn product_code(x: Product) -> u32
     ensures { λ r. ⌜ (r ≡ codes.productCode x) × (r < 32) ⌝ }
 {
     match x {
@@ -121,7 +121,7 @@ pub fn product_code(x: Product) -> u32
     }
 }
 
-pub fn dot_code(x: Dot) -> u32
+fn dot_code(x: Dot) -> u32
     ensures { λ r. ⌜ (r ≡ codes.dotCode x) × (r < 32) ⌝ }
 {
     match x {
@@ -134,7 +134,7 @@ pub fn dot_code(x: Dot) -> u32
     }
 }
 
-pub fn pack_code(x: Pack) -> u32
+fn pack_code(x: Pack) -> u32
     ensures { λ r. ⌜ (r ≡ codes.packCode x) × (r < 32) ⌝ }
 {
     match x {
@@ -156,7 +156,7 @@ pub fn indexed_code(x: Indexed) -> u32
     }
 }
 
-pub fn rounding_code(x: Rounding) -> u32
+fn rounding_code(x: Rounding) -> u32
     ensures { λ r. ⌜ (r ≡ codes.roundingCode x) × (r < 32) ⌝ }
 {
     match x {
@@ -165,7 +165,7 @@ pub fn rounding_code(x: Rounding) -> u32
     }
 }
 
-pub fn across_code(x: Across) -> u32
+fn across_code(x: Across) -> u32
     ensures { λ r. ⌜ (r ≡ codes.acrossCode x) × (r < 32) ⌝ }
 {
     match x {
@@ -176,7 +176,7 @@ pub fn across_code(x: Across) -> u32
     }
 }
 
-pub fn saturate_code(x: Saturate) -> u32
+fn saturate_code(x: Saturate) -> u32
     ensures { λ r. ⌜ (r ≡ codes.saturateCode x) × (r < 32) ⌝ }
 {
     match x {
@@ -266,7 +266,7 @@ pub fn scaled_code(x: Scaled) -> u32
     }
 }
 
-pub fn arith_code(x: Arith) -> u32
+fn arith_code(x: Arith) -> u32
     ensures { λ r. ⌜ r ≡ codes.arithCode x ⌝ }
 {
     match x {

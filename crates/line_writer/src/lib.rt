@@ -13,14 +13,14 @@ pub struct LineWriter<'a> {
 }
 
 // The borrow goes into the writer, and the place is the start.
-pub fn new<'a>(line: &'a mut [u8]) -> LineWriter<'a>
+fn new<'a>(line: &'a mut [u8]) -> LineWriter<'a>
     ensures { λ r. ⌜ (r .line ≡ line .entry) × (r .at ≡ 0) ⌝ }
 {
     LineWriter { line: line, at: 0 }
 }
 
 // Writes the line of a word at the writer's place, and says where the next byte goes.
-pub fn put<'a>(w: LineWriter<'a>, address: u32, word: u32) -> usize
+fn put<'a>(w: LineWriter<'a>, address: u32, word: u32) -> usize
     requires { ⌜ Room (now (w .line)) (w .at) (lineOf address word) ⌝ }
     ensures { λ r. ⌜ Puts (now (w .entry .line)) (w .entry .at) (lineOf address word) (now (w .exit .0)) r ⌝ }
 {
@@ -29,7 +29,7 @@ pub fn put<'a>(w: LineWriter<'a>, address: u32, word: u32) -> usize
 }
 
 // From a slice to a writer and back: its contract says nothing of a writer, so whoever calls it needs no walk by hand.
-pub fn fill(line: &mut [u8], address: u32, word: u32) -> usize
+fn fill(line: &mut [u8], address: u32, word: u32) -> usize
     requires { ⌜ Room (now line) 0 (lineOf address word) ⌝ }
     ensures { λ r. ⌜ Puts (now (line .entry)) 0 (lineOf address word) (now (line .exit)) r ⌝ }
 {

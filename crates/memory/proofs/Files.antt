@@ -1,5 +1,5 @@
 -- The file of vector registers: what is read after a write.
-use mathlib.Core.Path.{_≡_, sym, ap, _∙_}
+use mathlib.Core.Path.{_≡_, refl, sym, ap, _∙_}
 use mathlib.Core.List.{List}
 use Prim.Native.Nat.{ℕ, suc, _+_, _*_, _%_, _^_, _≤_, _<_}
 use native.Mathlib.Omega.{arith}
@@ -8,15 +8,20 @@ use lib.ListN.{length}
 use Rattle.isa.specs.declared.Vreg.{Vreg}
 use Rattle.memory.specs.Bytes.{part, replaced, number, bytesOf, AreBytes}
 use Rattle.memory.specs.File.{registerAt, withRegister}
-use Rattle.memory.specs.Value.{value, register}
+use Rattle.memory.specs.Value.{value, register, Holds}
 use Rattle.memory.proofs.Values.{bytesOf-register}
-use Rattle.memory.proofs.Parts.{length-part, length-replaced, part-replaced, part-before, part-after}
+use Rattle.memory.proofs.Parts.{part-past, length-part, length-replaced, part-replaced, part-before, part-after}
 use Rattle.memory.proofs.Numbers.{length-bytesOf, number-below, part-bytes, number-bytesOf}
 
 pub registerAt-below : (file : List ℕ) (r : Vreg) → AreBytes file → length file ≡ 512 → r .0 < 32 → registerAt file r < 2 ^ 128
 unfolding registerAt
 registerAt-below file r h long small =
     rw (length-part file (16 * r .0) 16 (omega arith)) at (number-below (part file (16 * r .0) 16) (part-bytes file (16 * r .0) 16 h))
+
+-- past the last register there are no bytes
+pub no-register : (file : List ℕ) (r : Vreg) → length file ≡ 512 → 31 < r .0 → Holds (record { low = 0; high = 0 }) (registerAt file r)
+unfolding registerAt number register
+no-register file r long past = rw (part-past file (16 * r .0) 16 (omega arith)) (record { is = refl; exact = refl })
 
 -- what is written of the register of x is x
 pub withRegister-register : (file : List ℕ) (r : Vreg) (x : ℕ) → withRegister file r (value (register x)) ≡ withRegister file r x

@@ -1,11 +1,11 @@
 -- Parts of a list of bytes: what a part is after a replacement, byte by byte and whole, and two replacements side by side.
 use mathlib.Core.Path.{_≡_, refl, sym, ap, ap₂, _∙_}
 use mathlib.Core.List.{List, [], _∷_, _++_, append-assoc}
-use Prim.Native.Nat.{ℕ, suc, _+_, _-_, _≤_, _<_}
+use Prim.Native.Nat.{ℕ, zero, suc, _+_, _-_, _≤_, _<_}
 use native.Mathlib.Nat.{add-suc}
 use native.Mathlib.Numerals.{add-one}
 use native.Mathlib.Omega.{arith}
-use lib.ListN.{length, take, drop, getD, List·getD-append, length-append, length-take, length-drop}
+use lib.ListN.{length, take, drop, getD, List·getD-append, length-append, length-take, length-drop, drop-of-length-le}
 use lib.Seq.{ext-getD, getD-append-add, getD-drop, getD-take, drop-cons, paste, take-length, take-at, drop-at, drop-drop}
 use Rattle.memory.specs.Bytes.{part, replaced}
 
@@ -17,6 +17,11 @@ part-cons s at n h = rw (drop-cons s at 0 h, add-one)
 
 part-next : (s : List ℕ) (at k n : ℕ) → at + k < length s → part s (at + k) (suc n) ≡ getD s (at + k) 0 ∷ part s (at + suc k) n
 part-next s at k n h = rw (drop-cons s (at + k) 0 h, ← add-suc)
+
+-- past the end there are no bytes
+pub part-past : (s : List ℕ) (at n : ℕ) → length s ≤ at → part s at n ≡ []
+part-past s at zero h = refl
+part-past s at (suc n) h = ap (take (suc n)) (drop-of-length-le s h)
 
 -- the four bytes from at, one by one
 pub part-four : (s : List ℕ) (at : ℕ) → at + 4 ≤ length s

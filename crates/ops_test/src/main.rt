@@ -38,7 +38,7 @@ fn scaled(op: Scaled, rd: Greg, x: u64, y: u64, sa: u8) -> Outcome {
     if 3 < sa {
         return Outcome::Nothing;
     }
-    match plan::moves::scaled(op, rd, x, y, sa) {
+    match plan::scaled::scaled(op, rd, x, y, sa) {
         Plan::General(r, v) => written(r, v),
         _ => Outcome::Nothing,
     }

@@ -1,5 +1,5 @@
 // Permutes, Table 4.10: each says where element i of the result comes from, and one loop fills the words. INSERT and INSVE go the same way.
-pub mod choice;
+mod choice;
 pub mod moves;
 
 ghost use mathlib.Core.Path.{_≡_};

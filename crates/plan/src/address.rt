@@ -28,7 +28,6 @@ pub fn address(df: Width, offset: u16, x: u64) -> u64
 }
 
 pub fn target_of(pc: u64, offset: u16) -> u64
-    requires { ⌜ offset < 65536 ⌝ }
     ensures { λ r. ⌜ r ≡ numbers.target pc offset ⌝ }
 {
     let step = mulv(Width::D, extend(16, offset as u64), 4);

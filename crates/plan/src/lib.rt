@@ -1,11 +1,12 @@
 // What an instruction would do to a machine, as a value. Nothing is changed here: a plan names the reason to stop, or the one thing that
 // changes beside the program counter. So the sources are always the values before the step, and two machines can be compared by their plans.
-pub mod address;
-pub mod branch;
-pub mod moves;
+mod address;
+mod branch;
+mod moves;
 pub mod planned;
-pub mod vector;
-pub mod zero;
+pub mod scaled;
+mod vector;
+mod zero;
 
 use isa::Greg;
 use isa::Stop;

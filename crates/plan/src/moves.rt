@@ -4,36 +4,36 @@ use isa::Copied;
 use isa::Creg;
 use isa::Greg;
 use isa::Memory;
-use isa::Scaled;
 use isa::Stop;
 use isa::Vreg;
 use isa::Width;
-use linear::wrapping::addv;
 use memory::Register;
 use memory::file::read_register;
 use permute::moves::copy_s;
 use permute::moves::copy_u;
-use permute::moves::extend;
-use products::product::mulv;
 use state::setup::mask;
 use state::windows::Bases;
 use state::windows::Spot;
 use state::windows::locate;
 ghost use mathlib.Core.Path.{_≡_};
-ghost use Prim.Native.Nat.{_+_, _^_, _<_};
+ghost use Prim.Native.Nat.{_<_};
 ghost use lib.ListN.{length};
 ghost use Rattle.memory.specs.File.{registerAt};
 ghost use Rattle.memory.specs.Value.{value};
 ghost use Rattle.state.specs.Csr.{arms};
 ghost use Rattle.state.specs.Csr as csr;
 ghost use Rattle.state.specs.Windows.{spotOf};
-ghost use Rattle.plan.specs.Numbers.{lsa, dlsa, scaledOf, controlRead, copyOf};
+ghost use Rattle.plan.specs.Numbers.{controlRead, copyOf};
 ghost use Rattle.plan.specs.Plan.{generalAt, loaded, stored, accessed, toControl};
 
+// A number past 31 names no register: its value is 0.
 pub fn general(generals: &[u8], r: Greg) -> u64
-    requires { ⌜ (length (now generals) ≡ 256) × (r .0 < 32) ⌝ }
+    requires { ⌜ length (now generals) ≡ 256 ⌝ }
     ensures { λ x. ⌜ x ≡ generalAt (now (generals .entry)) r ⌝ }
 {
+    if 31 < r.0 {
+        return 0;
+    }
     let n = r.0 as usize;
     memory::eight(generals, 8 * n)
 }
@@ -48,7 +48,7 @@ fn copied(op: Copied, df: Width, s: Register, n: u64) -> u64
 }
 
 pub fn copy(op: Copied, df: Width, rd: Greg, ws: Vreg, n: u8, vectors: &[u8]) -> Plan
-    requires { ⌜ (length (now vectors) ≡ 512) × (ws .0 < 32) ⌝ }
+    requires { ⌜ length (now vectors) ≡ 512 ⌝ }
     ensures { λ r. ⌜ r ≡ Plan.General rd (copyOf op df (registerAt (now (vectors .entry)) ws) n) ⌝ }
 {
     Plan::General(rd, copied(op, df, read_register(vectors, ws), n as u64))
@@ -107,7 +107,7 @@ fn load(wd: Vreg, a: u64, bases: Bases, table: &[u8], work: &[u8]) -> Plan
 }
 
 fn store(wd: Vreg, a: u64, bases: Bases, table: usize, work: usize, vectors: &[u8]) -> Plan
-    requires { ⌜ (length (now vectors) ≡ 512) × (wd .0 < 32) ⌝ }
+    requires { ⌜ length (now vectors) ≡ 512 ⌝ }
     ensures { λ r. ⌜ r ≡ stored (spotOf bases table work a) a (registerAt (now (vectors .entry)) wd) ⌝ }
 {
     match locate(bases, table, work, a) {
@@ -127,49 +127,11 @@ pub fn access(
     vectors: &[u8],
     work: &[u8],
 ) -> Plan
-    requires { ⌜ (length (now vectors) ≡ 512) × (wd .0 < 32) ⌝ }
+    requires { ⌜ length (now vectors) ≡ 512 ⌝ }
     ensures { λ r. ⌜ r ≡ accessed op bases (now (table .entry)) (now (vectors .entry)) (now (work .entry)) wd a ⌝ }
 {
     match op {
         Memory::Ld => load(wd, a, bases, table, work),
         Memory::St => store(wd, a, bases, table.len(), work.len(), vectors),
-    }
-}
-
-// Two to the sa + 1.
-fn factor(sa: u8) -> u64
-    requires { ⌜ sa < 4 ⌝ }
-    ensures { λ r. ⌜ r ≡ 2 ^ (sa + 1) ⌝ }
-{
-    match sa {
-        0 => 2,
-        1 => 4,
-        2 => 8,
-        _ => 16,
-    }
-}
-
-fn lsa_of(x: u64, y: u64, sa: u8) -> u64
-    requires { ⌜ sa < 4 ⌝ }
-    ensures { λ r. ⌜ r ≡ lsa x y sa ⌝ }
-{
-    let product = mulv(Width::W, x % 4294967296, factor(sa));
-    extend(32, addv(Width::W, product, y % 4294967296))
-}
-
-fn dlsa_of(x: u64, y: u64, sa: u8) -> u64
-    requires { ⌜ sa < 4 ⌝ }
-    ensures { λ r. ⌜ r ≡ dlsa x y sa ⌝ }
-{
-    addv(Width::D, mulv(Width::D, x, factor(sa)), y)
-}
-
-pub fn scaled(op: Scaled, rd: Greg, x: u64, y: u64, sa: u8) -> Plan
-    requires { ⌜ sa < 4 ⌝ }
-    ensures { λ r. ⌜ r ≡ Plan.General rd (scaledOf op x y sa) ⌝ }
-{
-    match op {
-        Scaled::Lsa => Plan::General(rd, lsa_of(x, y, sa)),
-        Scaled::Dlsa => Plan::General(rd, dlsa_of(x, y, sa)),
     }
 }

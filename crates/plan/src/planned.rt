@@ -3,6 +3,7 @@ use crate::Plan;
 use crate::address::address;
 use crate::branch;
 use crate::moves;
+use crate::scaled;
 use crate::vector;
 use isa::Instr;
 use isa::Stop;
@@ -28,7 +29,7 @@ pub enum Early {
     Stops(Stop),
 }
 
-pub fn kind_of(i: Instr) -> Kind
+fn kind_of(i: Instr) -> Kind
     ensures { λ r. ⌜ r ≡ kindOf i ⌝ }
 {
     match i {
@@ -76,7 +77,7 @@ fn branch_early(k: Mark, on: bool) -> Early
 }
 
 // Whether 15 or 16 stops an instruction before it works.
-pub fn early_stop(kind: Kind, k: Mark, on: bool) -> Early
+fn early_stop(kind: Kind, k: Mark, on: bool) -> Early
     ensures { λ r. ⌜ r ≡ plans.early kind k on ⌝ }
 {
     match kind {
@@ -145,7 +146,7 @@ fn execute(
             branch::branch(op, df, wt, offset, vectors, c.pc)
         }
         Instr::BranchV { op, wt, offset } => branch::branch_v(op, wt, offset, vectors, c.pc),
-        Instr::Scaled { op, rd, rs, rt, sa } => moves::scaled(
+        Instr::Scaled { op, rd, rs, rt, sa } => scaled::scaled(
             op,
             rd,
             moves::general(generals, rs),

@@ -23,7 +23,7 @@ ghost use Rattle.vectors.specs.Register.{whole, together, filled};
 ghost use Rattle.plan.specs.Plan.{writes};
 
 pub fn three(op: Three, df: Width, wd: Vreg, ws: Vreg, wt: Vreg, vectors: &[u8]) -> Plan
-    requires { ⌜ (length (now vectors) ≡ 512) × (wd .0 < 32) × (ws .0 < 32) × (wt .0 < 32) ⌝ }
+    requires { ⌜ length (now vectors) ≡ 512 ⌝ }
     ensures { λ r. ⌜ r ≡ writes wd (threeOf op (bits df) (registerAt (now (vectors .entry)) wd) (registerAt (now (vectors .entry)) ws) (registerAt (now (vectors .entry)) wt)) ⌝ }
 {
     let d = read_register(vectors, wd);
@@ -33,7 +33,7 @@ pub fn three(op: Three, df: Width, wd: Vreg, ws: Vreg, wt: Vreg, vectors: &[u8])
 }
 
 pub fn indexed(op: Indexed, df: Width, wd: Vreg, ws: Vreg, x: u64, vectors: &[u8]) -> Plan
-    requires { ⌜ (length (now vectors) ≡ 512) × (wd .0 < 32) × (ws .0 < 32) ⌝ }
+    requires { ⌜ length (now vectors) ≡ 512 ⌝ }
     ensures { λ r. ⌜ r ≡ writes wd (indexedOf op (bits df) (registerAt (now (vectors .entry)) wd) (registerAt (now (vectors .entry)) ws) x) ⌝ }
 {
     let d = read_register(vectors, wd);
@@ -42,7 +42,7 @@ pub fn indexed(op: Indexed, df: Width, wd: Vreg, ws: Vreg, x: u64, vectors: &[u8
 }
 
 pub fn imm5(op: Imm5, df: Width, wd: Vreg, ws: Vreg, imm: u8, vectors: &[u8]) -> Plan
-    requires { ⌜ (length (now vectors) ≡ 512) × (ws .0 < 32) ⌝ }
+    requires { ⌜ length (now vectors) ≡ 512 ⌝ }
     ensures { λ r. ⌜ r ≡ writes wd (imm5Of op (bits df) (registerAt (now (vectors .entry)) ws) imm) ⌝ }
 {
     Plan::Vector(wd, forms::imm5(op, df, read_register(vectors, ws), imm))
@@ -55,7 +55,7 @@ pub fn ldi(df: Width, wd: Vreg, imm: u16) -> Plan
 }
 
 pub fn bit(op: BitOp, df: Width, wd: Vreg, ws: Vreg, m: u8, vectors: &[u8]) -> Plan
-    requires { ⌜ (length (now vectors) ≡ 512) × (wd .0 < 32) × (ws .0 < 32) ⌝ }
+    requires { ⌜ length (now vectors) ≡ 512 ⌝ }
     ensures { λ r. ⌜ r ≡ writes wd (bitOf op (bits df) (registerAt (now (vectors .entry)) wd) (registerAt (now (vectors .entry)) ws) m) ⌝ }
 {
     let d = read_register(vectors, wd);
@@ -64,7 +64,7 @@ pub fn bit(op: BitOp, df: Width, wd: Vreg, ws: Vreg, m: u8, vectors: &[u8]) -> P
 }
 
 pub fn imm8(op: Logic, wd: Vreg, ws: Vreg, imm: u8, vectors: &[u8]) -> Plan
-    requires { ⌜ (length (now vectors) ≡ 512) × (wd .0 < 32) × (ws .0 < 32) ⌝ }
+    requires { ⌜ length (now vectors) ≡ 512 ⌝ }
     ensures { λ r. ⌜ r ≡ writes wd (imm8Of op (registerAt (now (vectors .entry)) wd) (registerAt (now (vectors .entry)) ws) imm) ⌝ }
 {
     let d = read_register(vectors, wd);
@@ -73,14 +73,14 @@ pub fn imm8(op: Logic, wd: Vreg, ws: Vreg, imm: u8, vectors: &[u8]) -> Plan
 }
 
 pub fn shf(df: Width, wd: Vreg, ws: Vreg, imm: u8, vectors: &[u8]) -> Plan
-    requires { ⌜ (length (now vectors) ≡ 512) × (ws .0 < 32) ⌝ }
+    requires { ⌜ length (now vectors) ≡ 512 ⌝ }
     ensures { λ r. ⌜ r ≡ writes wd (whole (bits df) (chosenByImmediate imm (bits df) (registerAt (now (vectors .entry)) ws))) ⌝ }
 {
     Plan::Vector(wd, permute::shf(df, read_register(vectors, ws), imm))
 }
 
 pub fn element(op: Element, df: Width, wd: Vreg, ws: Vreg, n: u8, vectors: &[u8]) -> Plan
-    requires { ⌜ (length (now vectors) ≡ 512) × (wd .0 < 32) × (ws .0 < 32) ⌝ }
+    requires { ⌜ length (now vectors) ≡ 512 ⌝ }
     ensures { λ r. ⌜ r ≡ writes wd (elementOf op (bits df) (registerAt (now (vectors .entry)) wd) (registerAt (now (vectors .entry)) ws) n) ⌝ }
 {
     let d = read_register(vectors, wd);
@@ -89,7 +89,7 @@ pub fn element(op: Element, df: Width, wd: Vreg, ws: Vreg, n: u8, vectors: &[u8]
 }
 
 pub fn insert(df: Width, wd: Vreg, n: u8, x: u64, vectors: &[u8]) -> Plan
-    requires { ⌜ (length (now vectors) ≡ 512) × (wd .0 < 32) ⌝ }
+    requires { ⌜ length (now vectors) ≡ 512 ⌝ }
     ensures { λ r. ⌜ r ≡ writes wd (whole (bits df) (withElement n x (bits df) (registerAt (now (vectors .entry)) wd))) ⌝ }
 {
     Plan::Vector(
@@ -99,14 +99,14 @@ pub fn insert(df: Width, wd: Vreg, n: u8, x: u64, vectors: &[u8]) -> Plan
 }
 
 pub fn copied(wd: Vreg, ws: Vreg, vectors: &[u8]) -> Plan
-    requires { ⌜ (length (now vectors) ≡ 512) × (ws .0 < 32) ⌝ }
+    requires { ⌜ length (now vectors) ≡ 512 ⌝ }
     ensures { λ r. ⌜ r ≡ writes wd (registerAt (now (vectors .entry)) ws) ⌝ }
 {
     Plan::Vector(wd, read_register(vectors, ws))
 }
 
 pub fn vec(op: Logic, wd: Vreg, ws: Vreg, wt: Vreg, vectors: &[u8]) -> Plan
-    requires { ⌜ (length (now vectors) ≡ 512) × (wd .0 < 32) × (ws .0 < 32) × (wt .0 < 32) ⌝ }
+    requires { ⌜ length (now vectors) ≡ 512 ⌝ }
     ensures { λ r. ⌜ r ≡ writes wd (together 1 (logicBit op) (registerAt (now (vectors .entry)) wd) (registerAt (now (vectors .entry)) ws) (registerAt (now (vectors .entry)) wt)) ⌝ }
 {
     let d = read_register(vectors, wd);
@@ -122,7 +122,7 @@ pub fn fill(df: Width, wd: Vreg, x: u64) -> Plan
 }
 
 pub fn count(op: Count, df: Width, wd: Vreg, ws: Vreg, vectors: &[u8]) -> Plan
-    requires { ⌜ (length (now vectors) ≡ 512) × (ws .0 < 32) ⌝ }
+    requires { ⌜ length (now vectors) ≡ 512 ⌝ }
     ensures { λ r. ⌜ r ≡ writes wd (countOf op (bits df) (registerAt (now (vectors .entry)) ws)) ⌝ }
 {
     Plan::Vector(wd, forms::count(op, df, read_register(vectors, ws)))

@@ -1,4 +1,5 @@
 // One element at a width: the products and quotients of Table 4.1, and its operations on halves.
 pub mod dispatch;
-pub mod dot;
+mod division;
+mod dot;
 pub mod product;

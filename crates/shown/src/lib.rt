@@ -1,6 +1,6 @@
 // What the listing shows of an instruction: which mnemonic and format, and which operands in which order.
 mod classes;
-pub mod numbers;
+mod numbers;
 
 use crate::classes::bit;
 use crate::classes::branch;

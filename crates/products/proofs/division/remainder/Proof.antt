@@ -1,4 +1,4 @@
--- `products::product::remainder` meets its contract. By sign and absolute value.
+-- `products::division::remainder` meets its contract. By sign and absolute value.
 -- Assumes nothing.
 use Rattle.element.proofs.Widths.{size}
 use Rattle.isa.specs.Widths.{bits}
@@ -6,8 +6,8 @@ use Rattle.products.proofs.Quotient.{amount-some, remainder-form, remai
 use borrow.Author.Needs.{needs}
 use native.Mathlib.Nat.{lt-of-le-of-lt, mod-le}
 use native.Mathlib.Omega.{arith}
-use Rattle.products.proofs.product.remainder.Statement.{statement}
-use Rattle.products.proofs.product.remainder.Tie as tie
+use Rattle.products.proofs.division.remainder.Statement.{statement}
+use Rattle.products.proofs.division.remainder.Tie as tie
 
 rem-by-sign : tie.Need-rem-by-sign
 rem-by-sign c = let start = c .before .before .before .before in let w = start .args .w in

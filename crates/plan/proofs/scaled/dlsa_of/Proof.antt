@@ -1,9 +1,9 @@
--- `plan::moves::dlsa_of`: the sum of the product. Assumes nothing.
+-- `plan::scaled::dlsa_of`: the sum of the product. Assumes nothing.
 use Rattle.plan.proofs.NumberLaws.{mul-add}
 use Rattle.plan.specs.Numbers.{dlsa}
 use borrow.Author.Needs.{needs}
-use Rattle.plan.proofs.moves.dlsa_of.Statement.{statement}
-use Rattle.plan.proofs.moves.dlsa_of.Tie as tie
+use Rattle.plan.proofs.scaled.dlsa_of.Statement.{statement}
+use Rattle.plan.proofs.scaled.dlsa_of.Tie as tie
 
 returns : tie.Need-returns
 unfolding dlsa

@@ -1,9 +1,9 @@
--- `plan::moves::factor`: an arm for each shift. Assumes nothing.
+-- `plan::scaled::factor`: an arm for each shift. Assumes nothing.
 use Prim.Native.Nat.{ℕ, _+_, _^_}
 use mathlib.Core.Path.{_≡_, sym, ap}
 use native.Mathlib.Omega.{arith}
-use Rattle.plan.proofs.moves.factor.Statement.{statement}
-use Rattle.plan.proofs.moves.factor.Tie as tie
+use Rattle.plan.proofs.scaled.factor.Statement.{statement}
+use Rattle.plan.proofs.scaled.factor.Tie as tie
 
 returns : tie.Need-returns
 returns c = ap (λ k. 2 ^ (k + 1)) (sym (c .match .keys1))

@@ -1,10 +1,10 @@
--- `plan::moves::lsa_of`: the sum of the product, extended. Assumes nothing.
+-- `plan::scaled::lsa_of`: the sum of the product, extended. Assumes nothing.
 use Prim.Native.Nat.{_%_, _^_}
 use Rattle.plan.proofs.NumberLaws.{mul-add, addv-below}
 use Rattle.plan.specs.Numbers.{lsa}
 use borrow.Author.Needs.{needs}
-use Rattle.plan.proofs.moves.lsa_of.Statement.{statement}
-use Rattle.plan.proofs.moves.lsa_of.Tie as tie
+use Rattle.plan.proofs.scaled.lsa_of.Statement.{statement}
+use Rattle.plan.proofs.scaled.lsa_of.Tie as tie
 
 extend-requires : tie.Need-extend-requires
 extend-requires c κs =

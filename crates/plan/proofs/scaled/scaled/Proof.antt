@@ -1,9 +1,9 @@
--- `plan::moves::scaled`: by the operation. Assumes nothing.
+-- `plan::scaled::scaled`: by the operation. Assumes nothing.
 use Rattle.plan.specs.declared.Plan.the-variants.{General}
 use borrow.Author.Needs.{needs}
 use mathlib.Core.Path.{ap}
-use Rattle.plan.proofs.moves.scaled.Statement.{statement}
-use Rattle.plan.proofs.moves.scaled.Tie as tie
+use Rattle.plan.proofs.scaled.scaled.Statement.{statement}
+use Rattle.plan.proofs.scaled.scaled.Tie as tie
 
 returns : tie.Need-returns
 returns c = rw (c .before .enum-told .given .1) (ap (General (c .before .before .before .args .rd)) (c .lsa-of .ensures))
