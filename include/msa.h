@@ -59,7 +59,7 @@ enum msa_answer {
     MSA_NO_WINDOW = 17, /* load or store whose sixteen bytes lie in no single window */
     MSA_READ_ONLY = 18, /* store wholly inside the table */
     MSA_TRAP = 19, /* CTCMSA that arms a float trap */
-    MSA_SPENT = 20 /* a run only: the count equals the budget */
+    MSA_SPENT = 20 /* a run only, and there before 11 to 19: the count equals the budget */
 };
 
 /* One step. Answers MSA_FINISHED, or why the instruction was not finished; then no byte is changed. */

@@ -1,7 +1,7 @@
 #!/bin/sh
 # Runs the S cases of ../shared/vectors/list.txt through target/bin/list, whole and in pieces, and counts how many agree.
 cd "$(dirname "$0")/.." || exit 1
-python3 - <<'P'
+python3 - "$@" <<'P'
 import subprocess, sys
 cases, now = [], None
 for row in open("../shared/vectors/list.txt"):

@@ -11,7 +11,7 @@ use Rattle.bits.specs.Places.{bitAt}
 unfoldable pub sll : ℕ → ℕ → ℕ → ℕ
 sll n s k = (s * 2 ^ k) % 2 ^ n
 
--- SRA and SRL: the floor of the value
+-- SRA and SRL: the floor of the value divided by 2^k
 unfoldable pub shiftRight : Reading → ℕ → ℕ → ℕ → ℕ
 shiftRight g n s k = wrap n (shrZ (value g n s) (2 ^ k))
 

@@ -1,4 +1,5 @@
--- The manual's opcode tables, 3.10 and 3.16 to 3.28, cell by cell. Beyond the end of a table every cell is reserved.
+-- The manual's opcode tables, 3.10, 3.17 to 3.23 and 3.25 to 3.28, cell by cell. (3.16, the major opcodes, is in the reader; 3.24 is one cell, left out.)
+-- No field reaches beyond the end of its table; a cell there is reserved, or the table's last word for it.
 use mathlib.Core.List.{List, [], _∷_, _++_}
 use Prim.Native.Nat.{ℕ}
 use lib.ListN.{getD}

@@ -1,4 +1,4 @@
-// The manual's opcode tables, 3.10 and 3.16 to 3.28, cell by cell.
+// The manual's opcode tables, 3.10, 3.17 to 3.23 and 3.25 to 3.28, cell by cell.
 mod rows;
 pub mod tables;
 mod three;

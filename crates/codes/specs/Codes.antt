@@ -1,4 +1,4 @@
--- The numbers that the tables give an operation: the column alone, or eight times the minor opcode plus the column.
+-- The numbers that the tables give an operation: the column alone, eight times the minor opcode plus the column, a place within the row, or the field itself.
 use Prim.Native.Nat.{ℕ, _+_, _*_}
 use Rattle.isa.specs.declared.Bitwise.{Bitwise}
 use Rattle.isa.specs.declared.Bitwise.the-variants.{Sll, Sra, Srl, Bclr, Bset, Bneg, Binsl, Binsr}

@@ -1,4 +1,4 @@
-// The numbers that the tables give an operation: the column alone, or eight times the minor opcode plus the column.
+// The numbers that the tables give an operation: the column alone, eight times the minor opcode plus the column, a place within the row, or the field itself.
 pub mod forms;
 
 use isa::Absolute;

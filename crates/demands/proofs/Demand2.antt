@@ -1,24 +1,31 @@
--- Demand 2, by the way that the step went, and by the plan.
+-- Demand 2, by the way that the step went, and by the plan: what it names is there.
 -- Assumes nothing.
-use mathlib.Core.Path.{_≡_, refl, sym, _∙_}
+use mathlib.Core.Path.{_≡_, refl, _∙_}
 use mathlib.Core.List.{List}
-use Prim.Native.Nat.{ℕ}
+use Prim.Native.Nat.{ℕ, _%_, _^_}
+use native.Mathlib.Nat.{mod-lt}
 use native.Mathlib.Omega.{arith}
+use lib.ListN.{length}
+use lib.Pow.{pow-pos}
 use Rattle.isa.specs.declared.Read.{Read}
 use Rattle.isa.specs.declared.Read.the-variants as read
 use Rattle.memory.specs.Value.{value}
 use Rattle.plan.specs.declared.Plan.{Plan}
 use Rattle.plan.specs.declared.Plan.the-variants as plan
 use Rattle.plan.specs.Plan.{planOf}
+use Rattle.plan.specs.There.{There}
+use Rattle.plan.proofs.PlanLaws.{planned-there}
 use Rattle.reading.specs.Reading.{readOf}
 use Rattle.state.specs.declared.fetch.Fetched.{Fetched}
 use Rattle.state.specs.declared.fetch.Fetched.the-variants.{Word, NoWord}
 use Rattle.state.specs.Fetch.{fetched}
 use Rattle.state.specs.Machine.{Env, Machine}
+use Rattle.words.proofs.Answers.{read-formed}
 use Rattle.machine.specs.declared.step.Outcome.the-variants.{Finished}
 use Rattle.machine.specs.Effect.{applied}
 use Rattle.machine.specs.Step.{stepOf, attempted, decided}
 use Rattle.demands.specs.Demand2.{Meant, FinishedStep, OneChange, none, vector, general, store, ChangesOne}
+use Rattle.demands.proofs.ReadLow.{read-low}
 
 pub finished-step : FinishedStep
 unfolding stepOf
@@ -26,17 +33,28 @@ finished-step p e m done = by-word (fetched p (e .bases .program) (m .ctl .pc)) 
   where
     by-reading : (w : ℕ) (r : Read) → fetched p (e .bases .program) (m .ctl .pc) ≡ Word w → readOf w ≡ r → decided r e m .outcome ≡ Finished → Meant p e m
     by-reading w (read.Not u) f g o = let z : _≡_ {A = ℕ} 0 1 = cc in absurd (omega arith)
-    by-reading w (read.Instr i) f g o = record { word = w; instruction = i; there = f; reads = g; after = rw (f, g) }
+    by-reading w (read.Instr i) f g o = record { word = w; instruction = i; there = f; reads = g; finishes = o; after = rw (f, g) }
 
     by-word : (f : Fetched) → fetched p (e .bases .program) (m .ctl .pc) ≡ f → attempted f e m .outcome ≡ Finished → Meant p e m
     by-word (Word w) f o = by-reading w (readOf w) f refl o
     by-word NoWord f o = let z : _≡_ {A = ℕ} 0 1 = cc in absurd (omega arith)
 
+-- what the plan of a finished step names is there
+pub meant-there : (p : List ℕ) (e : Env) (m : Machine) (s : Meant p e m) → There (e .bases .work) (length (m .work)) (planOf e m (s .instruction))
+meant-there p e m s =
+    planned-there e m (s .instruction)
+    (read-formed (s .word % 2 ^ 32) (s .instruction) (mod-lt (s .word) (pow-pos 32)) (read-low (s .word) ∙ s .reads))
+
+applied-one : (base : ℕ) (q : Plan) (m : Machine) → There base (length (m .work)) q → OneChange base m (applied base q m)
+applied-one base (plan.Stop s) m h = none refl refl refl
+applied-one base plan.Nothing m h = none refl refl refl
+applied-one base (plan.Vector r v) m h = vector r (value v) h refl refl refl
+applied-one base (plan.General r x) m h = general r x h refl refl refl
+applied-one base (plan.Store a v) m h = store a (value v) (h .0) (h .1) refl refl refl
+applied-one base (plan.Csr x) m h = none refl refl refl
+applied-one base (plan.Branch k) m h = none refl refl refl
+
 pub changes-one : ChangesOne
-changes-one base (plan.Stop s) m = none refl refl refl
-changes-one base plan.Nothing m = none refl refl refl
-changes-one base (plan.Vector r v) m = vector r (value v) refl refl refl
-changes-one base (plan.General r x) m = general r x refl refl refl
-changes-one base (plan.Store a v) m = store a (value v) refl refl refl
-changes-one base (plan.Csr x) m = none refl refl refl
-changes-one base (plan.Branch k) m = none refl refl refl
+changes-one p e m done =
+    let s = finished-step p e m done in
+    rw (s .after) (applied-one (e .bases .work) (planOf e m (s .instruction)) m (meant-there p e m s))

@@ -298,11 +298,23 @@ module _ (p table : List ℕ) (pb tb b₁ b₂ : ℕ) where
           vec = i .vec;
           gen = i .gen;
           ctl = i .ctl;
+          first-length = i .first-length ∙ l₁;
+          second-length = i .second-length ∙ l₂;
           shared = i .shared;
           added = λ j h out. i .added j (omega arith) (λ x. out (x .0, omega arith)) ∙ beside .rest j h out;
         }
     along-alike (Stopped s) v′ g′ c′ w₁′ w₂′ beside f17 f20 =
-        record { reason = refl; count = refl; vec = refl; gen = refl; ctl = refl; shared = beside .held; added = beside .rest }
+        record {
+          reason = refl;
+          count = refl;
+          vec = refl;
+          gen = refl;
+          ctl = refl;
+          first-length = beside .first;
+          second-length = beside .second;
+          shared = beside .held;
+          added = beside .rest;
+        }
 
     onward-alike : (s₁ s₂ : Result) → Together table pb tb b₁ b₂ v g c w₁ w₂ holds s₁ s₂
         → (reasonNumber (go-on s₁ k₁ (placedEnv pb tb b₁ table) .reason) ≡ 17 → ⊥)

@@ -1,5 +1,8 @@
 pub mod Demand1
 pub mod Demand2
 pub mod Demand3
+pub mod GoesOn
+pub mod Kept
 pub mod OneAnswer
+pub mod ReadLow
 pub mod Reasons

@@ -1,7 +1,7 @@
 -- Two answers that meet a promise are one: both are what the definition says.
 -- Assumes nothing.
 use mathlib.Core.Path.{_≡_, sym, _∙_}
-use Rattle.demands.specs.OneAnswer.{OneAdvance, OneStep, OneRun, OneValue}
+use Rattle.demands.specs.OneAnswer.{OneAdvance, OneStep, OneRun, OneValue, OneElement, OneRegister, OneSetup}
 
 pub one-advance : OneAdvance
 one-advance s r r′ v v′ g g′ w w′ i j =
@@ -24,3 +24,12 @@ one-run s r r′ v v′ g g′ w w′ i j =
 
 pub one-value : OneValue
 one-value A d r r′ e f = e ∙ sym f
+
+pub one-element : OneElement
+one-element n x r r′ e f = e .is ∙ sym (f .is)
+
+pub one-register : OneRegister
+one-register x r r′ e f = e .is ∙ sym (f .is)
+
+pub one-setup : OneSetup
+one-setup s r r′ e f = e .answer ∙ sym (f .answer)

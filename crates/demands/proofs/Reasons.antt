@@ -1,4 +1,4 @@
--- The first reason: by the word at the counter, what it reads as, and what the instruction may stop for.
+-- The first reason: by the word at the counter, what it reads as, and what the instruction may stop for. A run's is that of its last step.
 -- Assumes nothing.
 use mathlib.Core.Path.{_≡_, refl, sym, ap, _∙_}
 use mathlib.Core.Bool.{Bool, true, false, cond, not, _&&_, _||_}
@@ -7,7 +7,7 @@ use Prim.Native.Nat.{ℕ, zero, suc, _+_, _-_, _%_, _^_, _≤_, _<_}
 use native.Mathlib.Decide.{decLe}
 use native.Mathlib.Nat.{mod-eq-of-lt}
 use native.Mathlib.Omega.{arith}
-use borrow.Author.Tests.{le-leb, lt-leb, lt-ltb, leb-true, ltb-true}
+use borrow.Author.Tests.{le-leb, lt-leb, lt-ltb, leb-true, ltb-true, eq-eqb, ne-eqb}
 use lib.Dec.{eqb, leb, ltb}
 use lib.ListN.{length}
 use Rattle.isa.specs.declared.Instr.{Instr}
@@ -16,10 +16,13 @@ use Rattle.isa.specs.declared.Memory.{Memory}
 use Rattle.isa.specs.declared.Memory.the-variants.{Ld, St}
 use Rattle.isa.specs.declared.Read.{Read}
 use Rattle.isa.specs.declared.Read.the-variants as read
+use Rattle.isa.specs.declared.Stop.{Stop}
+use Rattle.isa.specs.declared.Stop.the-variants as stop
 use Rattle.isa.specs.declared.Stop.the-variants.{Trap}
 use Rattle.isa.specs.declared.Unread.the-variants.{Unassigned, LeftOut, Other}
 use Rattle.isa.specs.declared.Vreg.{Vreg}
 use Rattle.isa.specs.declared.Width.{Width}
+use Rattle.isa.specs.Numbers.{stopNumber}
 use Rattle.memory.specs.Bytes.{part, number}
 use Rattle.memory.specs.File.{registerAt}
 use Rattle.element.proofs.Views.{wrap-below}
@@ -42,9 +45,13 @@ use Rattle.state.specs.Setup.{refusal}
 use Rattle.state.specs.Windows.{placed, orElse}
 use Rattle.state.proofs.SetupLaws.{Sized, accepted}
 use Rattle.state.proofs.TestLaws.{and-left, and-right}
+use Rattle.machine.specs.declared.run.Reason.{Reason}
 use Rattle.machine.specs.Numbers.{outcomeNumber}
 use Rattle.machine.specs.Step.{stepOf, outcomeOf, attempted, decided}
-use Rattle.demands.specs.Reasons.{FirstReason, first, hasWord, marked, isBranch, heedsSwitch, inside, every, holdsAll, inTable, inWork, riskOf, none, csr, nowhere, readOnly, trapping, stopsReading}
+use Rattle.demands.specs.Demand1.{Why, spent, stopped}
+use Rattle.demands.specs.Reasons.{FirstReason, RunReason, HasReason, first, stops, hasWord, marked, isBranch, heedsSwitch, inside, every, holdsAll, inTable, inWork, riskOf, none, csr, nowhere, readOnly, trapping, stopsReading}
+use Rattle.demands.proofs.Demand1.{accepted-run}
+use Rattle.demands.proofs.Kept.{steps-accepted}
 
 -- every number below k
 every-true : (k : ℕ) (f : ℕ → Bool) → ((j : ℕ) → j < k → f j ≡ true) → every k f ≡ true
@@ -215,3 +222,27 @@ first-reason p e m a = go (hasWord p e m)
         ≡ cond (not b) 11 (first (stopsReading (readOf (number (part p (m .ctl .pc - e .bases .program) 4))) e m))
     go true = decided-first e m (accepted p e m a) (readOf (number (part p (m .ctl .pc - e .bases .program) 4)))
     go false = refl
+
+-- every stop has a number
+stop-some : (s : Stop) → stopNumber s ≡ 0 → ⊥
+stop-some stop.NoWord h = omega arith
+stop-some (stop.Unread Unassigned) h = omega arith
+stop-some (stop.Unread LeftOut) h = omega arith
+stop-some (stop.Unread Other) h = omega arith
+stop-some stop.BranchInSlot h = omega arith
+stop-some stop.SwitchedOff h = omega arith
+stop-some stop.NoWindow h = omega arith
+stop-some stop.ReadOnly h = omega arith
+stop-some stop.Trap h = omega arith
+
+why-reason : (p : List ℕ) (e : Env) (budget count : ℕ) (m : Machine) (r : Reason) → refusal p e m ≡ Accepted → Why p e budget count m r
+    → HasReason p e budget (record { reason = r; count = count; after = m })
+why-reason p e budget count m r a (spent h) = record { number = rw (eq-eqb count budget h); some = λ l. absurd (omega arith) }
+why-reason p e budget count m r a (stopped s l h) =
+    let is : stopNumber s ≡ first (stops p e m) = rw h at (first-reason p e m a) in
+    record { number = rw (ne-eqb count budget (omega arith)) is; some = λ l z. stop-some s (is ∙ z) }
+
+pub run-reason : RunReason
+run-reason p e budget m a =
+    let ends = accepted-run p e budget m a in
+    why-reason p e budget _ _ _ (steps-accepted p e _ m _ (ends .steps) a) (ends .why)

@@ -1,9 +1,9 @@
 -- Demand 1. Every set-up and budget gets an answer. A refused run has count 0 and changes nothing. An accepted one never passes its budget, and
 -- leaves exactly the machine after `count` finished steps; there its budget is spent, or the next step stops, and that is its reason.
--- (The first reason of document 01 and no other: `Reasons` says so of each step.)
+-- (The first reason of document 01 and no other: `Reasons` says so of each step and of each run.) A run that spent its budget can be gone on with.
 use mathlib.Core.Path.{_≡_}
 use mathlib.Core.List.{List}
-use Prim.Native.Nat.{ℕ, suc, _≤_, _<_}
+use Prim.Native.Nat.{ℕ, suc, _+_, _≤_, _<_}
 use Rattle.isa.specs.declared.Refusal.{Refusal}
 use Rattle.isa.specs.declared.Stop.{Stop}
 use Rattle.state.specs.declared.setup.Setup.the-variants.{Accepted, Refused}
@@ -12,7 +12,7 @@ use Rattle.state.specs.Setup.{refusal}
 use Rattle.machine.specs.declared.run.Reason.{Reason}
 use Rattle.machine.specs.declared.run.Reason.the-variants as reason
 use Rattle.machine.specs.declared.step.Outcome.the-variants.{Finished, Stopped}
-use Rattle.machine.specs.Run.{Run, ended, wholeRun}
+use Rattle.machine.specs.Run.{Run, adding, ended, wholeRun}
 use Rattle.machine.specs.Step.{stepOf}
 
 -- n finished steps lead from one machine to another
@@ -44,3 +44,9 @@ NoBudget = (p : List ℕ) (e : Env) (m : Machine) → refusal p e m ≡ Accepted
 -- a step that stops changes nothing
 abbrev pub StopKeeps : Type 0
 StopKeeps = (p : List ℕ) (e : Env) (m : Machine) (s : Stop) → stepOf p e m .outcome ≡ Stopped s → stepOf p e m .after ≡ m
+
+-- a run that spent its budget and a second from where it stopped are one run
+abbrev pub GoesOn : Type 0
+GoesOn =
+    (p : List ℕ) (e : Env) (n k : ℕ) (m : Machine) → refusal p e m ≡ Accepted → wholeRun p e n m .reason ≡ reason.Spent
+    → wholeRun p e (n + k) m ≡ adding n (wholeRun p e k (wholeRun p e n m .after))

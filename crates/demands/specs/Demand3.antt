@@ -1,6 +1,6 @@
 -- Demand 3. Two accepted runs are alike but for a larger budget and a larger work window: the second holds every address of the first, with the
 -- same bytes, wherever it begins and however long it is. If the first stopped neither with 17 nor with 20, the second ends alike, and leaves
--- every added byte alone.
+-- every added byte alone; and both windows are as long as they were.
 use mathlib.Core.Path.{_≡_}
 use Prim.Native.Nat.{ℕ, _+_, _-_, _≤_, _<_}
 use mathlib.Core.List.{List}
@@ -27,6 +27,8 @@ pub record EndsAlike (b₁ n b₂ : ℕ) (w₂ : List ℕ) (r₁ r₂ : Run) : T
   pub vec : r₂ .after .vec ≡ r₁ .after .vec
   pub gen : r₂ .after .gen ≡ r₁ .after .gen
   pub ctl : r₂ .after .ctl ≡ r₁ .after .ctl
+  pub first-length : length (r₁ .after .work) ≡ n
+  pub second-length : length (r₂ .after .work) ≡ length w₂
   pub shared : Holds b₁ (r₁ .after .work) b₂ (r₂ .after .work)
   pub added : Untouched b₁ n b₂ w₂ (r₂ .after .work)
 

@@ -2,13 +2,18 @@
 use mathlib.Core.Path.{_≡_}
 use mathlib.Core.List.{List}
 use Prim.Native.Nat.{ℕ}
+use Rattle.element.specs.Elements.{Element}
+use Rattle.memory.specs.declared.Register.{Register}
+use Rattle.memory.specs.Value.{Holds}
+use Rattle.state.specs.declared.setup.Setup.{Setup}
+use Rattle.state.specs.Setup.{Checks}
 use Rattle.machine.specs.declared.run.Ended.{Ended}
 use Rattle.machine.specs.declared.step.Answered.{Answered}
 use Rattle.machine.specs.declared.step.Stepped.{Stepped}
 use Rattle.machine.specs.Run.{Run, RunIs}
 use Rattle.machine.specs.Step.{Result, StepIs, Whole, WholeIs}
 
--- `step::advance`
+-- `advance`, inside a step and a run
 abbrev pub OneAdvance : Type 0
 OneAdvance =
     (s : Result) (r r′ : Stepped) (v v′ g g′ w w′ : List ℕ) → StepIs s r v g w → StepIs s r′ v′ g′ w′ → (r ≡ r′) × (v ≡ v′) × (g ≡ g′) × (w ≡ w′)
@@ -25,3 +30,13 @@ OneRun = (s : Run) (r r′ : Ended) (v v′ g g′ w w′ : List ℕ) → RunIs 
 -- every other public function: its contract is an equation between its answer, or a lent buffer at exit, and a definition
 abbrev pub OneValue : Type 1
 OneValue = (A : Type 0) (d r r′ : A) → r ≡ d → r′ ≡ d → r ≡ r′
+
+-- or a record that has it as a field: an element, a register, what the set-up limits say (a text and a line: crate `listing`, `put-unique`, `line-unique`)
+abbrev pub OneElement : Type 0
+OneElement = (n x r r′ : ℕ) → Element n r x → Element n r′ x → r ≡ r′
+
+abbrev pub OneRegister : Type 0
+OneRegister = (x : ℕ) (r r′ : Register) → Holds r x → Holds r′ x → r ≡ r′
+
+abbrev pub OneSetup : Type 0
+OneSetup = (s r r′ : Setup) → Checks s r → Checks s r′ → r ≡ r′

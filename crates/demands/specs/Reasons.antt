@@ -1,9 +1,10 @@
 -- The stops of a step: document 01's table, a row a reason, in its order. A step gives the number of the first row that applies, and is finished
--- where none does. (That a stop changes nothing is `StopKeeps` of Demand1. The table of set-up refusals is the definition itself: `state`, Setup.)
+-- where none does. A run gives 20 where its budget is spent, and else the number of the first row that applies where it ended.
+-- (That a stop changes nothing is `StopKeeps` of Demand1. The table of set-up refusals is the definition itself: `state`, Setup.)
 use mathlib.Core.Path.{_≡_}
 use mathlib.Core.Bool.{Bool, true, false, cond, not, _&&_, _||_}
 use mathlib.Core.List.{List, [], _∷_}
-use Prim.Native.Nat.{ℕ, zero, suc, _+_, _-_, _%_, _^_}
+use Prim.Native.Nat.{ℕ, zero, suc, _+_, _-_, _%_, _^_, _<_}
 use lib.Dec.{eqb, leb, ltb}
 use lib.ListN.{length}
 use Rattle.isa.specs.declared.Instr.{Instr}
@@ -24,7 +25,8 @@ use Rattle.state.specs.declared.setup.Setup.the-variants.{Accepted}
 use Rattle.state.specs.Csr.{masked, arms}
 use Rattle.state.specs.Machine.{Env, Machine}
 use Rattle.state.specs.Setup.{refusal}
-use Rattle.machine.specs.Numbers.{outcomeNumber}
+use Rattle.machine.specs.Numbers.{outcomeNumber, reasonNumber}
+use Rattle.machine.specs.Run.{Run, wholeRun}
 use Rattle.machine.specs.Step.{stepOf}
 
 pub record Row : Type 0 where
@@ -156,3 +158,12 @@ stops p e m = row 11 (not (hasWord p e m)) ∷ stopsReading (reading p e m) e m
 
 abbrev pub FirstReason : Type 0
 FirstReason = (p : List ℕ) (e : Env) (m : Machine) → refusal p e m ≡ Accepted → outcomeNumber (stepOf p e m .outcome) ≡ first (stops p e m)
+
+-- a run ends for a reason: the first of the table, wherever its budget is not spent, and there is one
+pub record HasReason (p : List ℕ) (e : Env) (budget : ℕ) (r : Run) : Type 0 where
+  pub number : reasonNumber (r .reason) ≡ cond (eqb (r .count) budget) 20 (first (stops p e (r .after)))
+  pub some : r .count < budget → first (stops p e (r .after)) ≡ 0 → ⊥
+
+abbrev pub RunReason : Type 0
+RunReason =
+    (p : List ℕ) (e : Env) (budget : ℕ) (m : Machine) → refusal p e m ≡ Accepted → HasReason p e budget (wholeRun p e budget m)

@@ -1,5 +1,5 @@
 // One element of a vector register, a number below 2^bits: the numbers of its width, and the readings that the operations share.
-// Everything here and in the operations is over the width, so that it is written and proved once for the four formats.
+// All of it, and every operation but ADDV and SUBV (crate `linear`), is over the width: written and proved once for the four formats.
 ghost use mathlib.Core.Path.{_≡_};
 ghost use Prim.Native.Nat.{_-_, _%_, _^_, _<_};
 ghost use Rattle.isa.specs.Widths.{bits};

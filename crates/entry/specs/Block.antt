@@ -1,4 +1,4 @@
--- The control block as 24 bytes, little-endian, no byte unread:
+-- The control block as 24 bytes, little-endian, no byte spare:
 --   0..8 program counter; 8..16 target, which counts only with mark 2; 16..20 MSACSR; 20..22 slot mark; 22..24 MSA switch.
 use Prim.Native.Nat.{ℕ}
 use mathlib.Core.Bool.{Bool, true, false, cond}

@@ -1,4 +1,4 @@
-// The control block as 24 bytes, little-endian, no byte unread: program counter (8), target of a taken mark (8), MSACSR (4), slot mark (2),
+// The control block as 24 bytes, little-endian, no byte spare: program counter (8), target of a taken mark (8), MSACSR (4), slot mark (2),
 // MSA switch (2).
 use state::control::Control;
 use state::control::Mark;

@@ -1,4 +1,4 @@
--- Document 01's number for each case of each answer. Every promise about an answer goes through these.
+-- Document 01's number for each case of each answer. The promises of reading, writing, set-up, a step, a run and a line go through these.
 use Prim.Native.Nat.{ℕ}
 use Rattle.isa.specs.declared.Unread.{Unread}
 use Rattle.isa.specs.declared.Unread.the-variants.{Unassigned, LeftOut, Other}

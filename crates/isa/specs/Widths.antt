@@ -1,4 +1,4 @@
--- The four data formats in numbers, Table 3.10 and section 3.2.
+-- The four data formats in numbers, Table 3.10 and section 3.3.
 use Prim.Native.Nat.{ℕ}
 use Rattle.isa.specs.declared.Width.{Width}
 use Rattle.isa.specs.declared.Width.the-variants.{B, H, W, D}

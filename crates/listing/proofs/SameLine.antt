@@ -4,7 +4,7 @@ use mathlib.Core.List.{List, _++_}
 use Prim.Native.Nat.{ℕ, _+_, _<_}
 use native.Mathlib.Omega.{arith}
 use lib.ListN.{length, length-append}
-use Rattle.text.specs.Text.{bytes}
+use Rattle.text.specs.Text.{bytes, Puts}
 use Rattle.text.specs.Numerals.{hex}
 use Rattle.text.proofs.Numerals.{hex-length}
 use Rattle.text.proofs.Same.{parts, hex-same}
@@ -33,3 +33,7 @@ same-line a w a′ w′ ha hw ha′ hw′ e =
 
 pub line-unique : (before : List ℕ) (a w : ℕ) (r s : Line) (after after′ : List ℕ) → Lists before a w r after → Lists before a w s after′ → (r ≡ s) × (after ≡ after′)
 line-unique before a w r s after after′ p q = (p .answered ∙ sym (q .answered), p .line ∙ sym (q .line))
+
+-- the same of a text that is put into a line
+pub put-unique : (before : List ℕ) (at : ℕ) (text after after′ : List ℕ) (n n′ : ℕ) → Puts before at text after n → Puts before at text after′ n′ → (n ≡ n′) × (after ≡ after′)
+put-unique before at text after after′ n n′ p q = (p .place ∙ sym (q .place), p .line ∙ sym (q .line))

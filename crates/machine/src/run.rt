@@ -1,5 +1,5 @@
 // A run on lent memory: steps, counted, until one stops or the budget is spent.
-use crate::step;
+use crate::advance::advance;
 use crate::step::Outcome;
 use isa::Refusal;
 use isa::Stop;
@@ -43,7 +43,7 @@ fn turns(
     let mut control = c;
     let mut count: u32 = 0;
     while count < budget {
-        let s = step::advance(bases, program, table, vectors, generals, work, control);
+        let s = advance(bases, program, table, vectors, generals, work, control);
         let outcome = s.outcome;
         match outcome {
             Outcome::Finished => {

@@ -1,22 +1,14 @@
-// One step on lent memory.
-use crate::effect;
-use isa::Read;
+// One step on lent memory, with its set-up limits.
+use crate::advance::advance;
 use isa::Refusal;
 use isa::Stop;
-use plan::Plan;
-use plan::planned;
-use reading::read_word;
 use state::control::Control;
-use state::fetch;
-use state::fetch::Fetched;
 use state::setup;
 use state::setup::Setup;
 use state::windows::Bases;
 ghost use mathlib.Core.Path.{_≡_};
-ghost use lib.ListN.{length};
-ghost use Rattle.plan.specs.There.{There};
 ghost use Rattle.state.specs.Machine.{env, machine};
-ghost use Rattle.machine.specs.Step.{outcomeOf, unreadStop, stoppedWith, concluded, stepOf, ranAs, wholeStep, StepIs, WholeIs};
+ghost use Rattle.machine.specs.Step.{ranAs, wholeStep, WholeIs};
 
 // How a step of an accepted set-up ends.
 pub enum Outcome {
@@ -40,83 +32,6 @@ pub enum Answer {
 pub struct Answered {
     pub answer: Answer,
     pub control: Control,
-}
-
-fn outcome_of(p: Plan) -> Outcome
-    ensures { λ r. ⌜ r ≡ outcomeOf p ⌝ }
-{
-    match p {
-        Plan::Stop(s) => Outcome::Stopped(s),
-        Plan::Nothing => Outcome::Finished,
-        Plan::Vector(_, _) => Outcome::Finished,
-        Plan::General(_, _) => Outcome::Finished,
-        Plan::Store(_, _) => Outcome::Finished,
-        Plan::Csr(_) => Outcome::Finished,
-        Plan::Branch(_) => Outcome::Finished,
-    }
-}
-
-// Does what the plan says; a plan to stop changes nothing.
-fn conclude(
-    p: Plan,
-    bases: Bases,
-    vectors: &mut [u8],
-    generals: &mut [u8],
-    work: &mut [u8],
-    c: Control,
-) -> Stepped
-    requires { ⌜ (length (now vectors) ≡ 512) × (length (now generals) ≡ 256) × There (bases .work) (length (now work)) p ⌝ }
-    ensures { λ r. ⌜ StepIs (concluded (bases .work) p (machine (now (vectors .entry)) (now (generals .entry)) (now (work .entry)) c)) r (now (vectors .exit)) (now (generals .exit)) (now (work .exit)) ⌝ }
-{
-    effect::apply(p, bases.work, vectors, generals, work);
-    Stepped {
-        outcome: outcome_of(p),
-        control: effect::control_after(p, c),
-    }
-}
-
-// A stop of an accepted step: nothing is changed.
-fn stopped(s: Stop, c: Control) -> Stepped
-    ensures { λ r. ⌜ r ≡ stoppedWith s c ⌝ }
-{
-    Stepped {
-        outcome: Outcome::Stopped(s),
-        control: c,
-    }
-}
-
-// 12, 13 or 14 of a word that reads as no instruction.
-fn unread_stop(r: Read) -> Stop
-    ensures { λ s. ⌜ s ≡ unreadStop r ⌝ }
-{
-    match r {
-        Read::Not(u) => Stop::Unread(u),
-        Read::Instr(_) => Stop::NoWord,
-    }
-}
-
-// One step of a set-up that was accepted.
-pub fn advance(
-    bases: Bases,
-    program: &[u8],
-    table: &[u8],
-    vectors: &mut [u8],
-    generals: &mut [u8],
-    work: &mut [u8],
-    c: Control,
-) -> Stepped
-    requires { ⌜ (length (now vectors) ≡ 512) × (length (now generals) ≡ 256) ⌝ }
-    ensures { λ r. ⌜ StepIs (stepOf (now (program .entry)) (env bases (now (table .entry))) (machine (now (vectors .entry)) (now (generals .entry)) (now (work .entry)) c)) r (now (vectors .exit)) (now (generals .exit)) (now (work .exit)) ⌝ }
-{
-    let Fetched::Word(w) = fetch::word_at(program, bases.program, c.pc) else {
-        return stopped(Stop::NoWord, c);
-    };
-    let reading = read_word(w);
-    let Read::Instr(i) = reading else {
-        return stopped(unread_stop(reading), c);
-    };
-    let p = planned::plan_of(i, bases, table, vectors, generals, work, c);
-    conclude(p, bases, vectors, generals, work, c)
 }
 
 // The answer of a step that ran.

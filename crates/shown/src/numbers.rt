@@ -81,10 +81,10 @@ pub fn imm5_signed(op: Imm5) -> bool
     }
 }
 
-pub fn imm5_number(minus: bool, imm: u8) -> Number
-    ensures { λ r. ⌜ r ≡ shows.imm5Number minus imm ⌝ }
+pub fn imm5_number(sign: bool, imm: u8) -> Number
+    ensures { λ r. ⌜ r ≡ shows.imm5Number sign imm ⌝ }
 {
-    if minus {
+    if sign {
         return signed(32, imm as u16);
     }
     number(false, imm as u16)

@@ -1,4 +1,5 @@
 -- The set-up limits: document 01's table, a row a limit, in its order.
+use mathlib.Core.Path.{_≡_}
 use Prim.Native.Nat.{ℕ, _+_, _%_, _^_}
 use mathlib.Core.Bool.{Bool, true, false, cond, not, _&&_, _||_}
 use mathlib.Core.List.{List, [], _∷_}
@@ -6,6 +7,7 @@ use lib.Dec.{eqb, ltb}
 use lib.ListN.{length}
 use Rattle.isa.specs.declared.Refusal.{Refusal}
 use Rattle.isa.specs.declared.Refusal.the-variants.{Registers, Program, WindowSize, SharedAddress, State}
+use Rattle.isa.specs.Numbers.{refusalNumber}
 use Rattle.memory.specs.Bytes.{part, number}
 use Rattle.state.specs.declared.control.Mark.{Mark}
 use Rattle.state.specs.declared.control.Mark.the-variants.{Clear, NotTaken, Taken}
@@ -15,6 +17,11 @@ use Rattle.state.specs.declared.setup.Setup.{Setup}
 use Rattle.state.specs.declared.setup.Setup.the-variants.{Accepted, Refused}
 use Rattle.state.specs.Csr.{masked}
 use Rattle.state.specs.Machine.{Env, Machine}
+
+-- document 01's number of what the limits say; 0 where the set-up is accepted
+abbrev pub setupNumber : Setup → ℕ
+setupNumber Accepted = 0
+setupNumber (Refused r) = refusalNumber r
 
 -- 512 bytes of vector registers and 32 general registers of 8
 abbrev pub registersBad : ℕ → ℕ → Bool
@@ -69,3 +76,8 @@ limits program e m =
 
 unfoldable pub refusal : List ℕ → Env → Machine → Setup
 refusal program e m = first (limits program e m)
+
+-- the code's answer, and its number
+pub record Checks (s r : Setup) : Type 0 where
+  pub answer : r ≡ s
+  pub number : setupNumber r ≡ setupNumber s

@@ -10,7 +10,7 @@ ghost use lib.Dec.{ltb};
 ghost use lib.ListN.{length};
 ghost use Rattle.state.specs.Machine.{env, machine};
 ghost use Rattle.state.specs.Csr.{masked};
-ghost use Rattle.state.specs.Setup.{registersBad, programBad, windowBad, shares, targetBad, stateBad, laterLimits, first, refusal};
+ghost use Rattle.state.specs.Setup.{registersBad, programBad, windowBad, shares, targetBad, stateBad, laterLimits, first, refusal, Checks};
 
 // What the limits say of a set-up.
 pub enum Setup {
@@ -134,7 +134,7 @@ pub fn check(
     work: &[u8],
     c: Control,
 ) -> Setup
-    ensures { λ r. ⌜ r ≡ refusal (now (program .entry)) (env bases (now (table .entry))) (machine (now (vectors .entry)) (now (generals .entry)) (now (work .entry)) c) ⌝ }
+    ensures { λ r. ⌜ Checks (refusal (now (program .entry)) (env bases (now (table .entry))) (machine (now (vectors .entry)) (now (generals .entry)) (now (work .entry)) c)) r ⌝ }
 {
     if registers_bad(vectors.len(), generals.len()) {
         Setup::Refused(Refusal::Registers)

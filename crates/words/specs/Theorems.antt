@@ -23,7 +23,7 @@ WriteRead = (i : Instr) (w : ℕ) → writeOf i ≡ Word w → readOf w ≡ read
 abbrev pub WriteBelow : Type 0
 WriteBelow = (i : Instr) (w : ℕ) → writeOf i ≡ Word w → w < 2 ^ 32
 
--- the answers to a word: 0, 12 and 13 under the major opcodes that have them, 14 under the others
+-- the answers to a word: an instruction, or 12 or 13 under the major opcode 011110, or 14 under another
 pub data Answer (w : ℕ) (r : Read) : Type 0 where
   instruction : readNumber r ≡ 0 → Answer w r
   unassigned : bits w 31 26 ≡ 30 → readNumber r ≡ 12 → Answer w r

@@ -19,7 +19,7 @@ use Rattle.codes.specs.Forms.{hasForm, copyForm, notD}
 use Rattle.isa.specs.Numbers.{writtenNumber}
 use Rattle.isa.specs.Widths as format
 
--- the widths of the fields, Figures 3-36 to 3-47; seven each, the last ones 0 where there are fewer
+-- the widths of the fields, Figures 3-36 to 3-47 and the page of LSA; seven each, the last ones 0 where there are fewer
 abbrev pub i8 : List ℕ
 i8 = 6 ∷ 2 ∷ 8 ∷ 5 ∷ 5 ∷ 6 ∷ 0 ∷ []
 

@@ -1,4 +1,4 @@
-// The layout of each class, Figures 3-36 to 3-47.
+// The layout of each class, Figures 3-36 to 3-47, and the page of LSA.
 use crate::Layout;
 use codes::bit_op_code;
 use codes::copied_code;

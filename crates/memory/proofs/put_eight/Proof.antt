@@ -18,11 +18,9 @@ put-eight-spec =
     Inv-loop
     μ-loop
     (λ c. written-none _ _ _ _)
-    (λ c. omega arith)
-    (λ c. omega arith)
+    (λ c. omega arith) (λ c. omega arith)
     (λ c. omega (arith, written-length (c .before .loop .inv) (c .before .before .pre)))
-    (λ c. omega arith)
-    (λ c. omega arith)
+    (λ c. omega arith) (λ c. omega arith)
     (λ c. written-more (c .before .loop .inv) (c .before .before .pre) (c .loop-test .taken))
     (λ c. written-length (c .before .loop .inv) (c .before .before .pre))
     (λ c. written-all (c .before .loop .inv) (c .before .before .pre) (c .loop-test .left)))

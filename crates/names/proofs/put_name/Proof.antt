@@ -19,10 +19,7 @@ put-name-spec =
     tie.close
     (tie.spec
     (λ c. puts-as (no-name (c .before .before .args .k) (omega arith)) (puts-none _ _))
-    (λ c κs. search needs)
-    (λ c. search needs)
-    (λ c. search needs)
-    (λ c. search needs)
+    (λ c κs. search needs) (λ c. search needs) (λ c. search needs) (λ c. search needs)
     (λ c κs.
     let a = c .before .before .before .before .before .args in
     let e = part (a .k) (c .before .before .name-length .ensures .0) in

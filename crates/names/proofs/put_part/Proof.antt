@@ -14,10 +14,7 @@ pub put-part-spec : {M : Type 1} → statement M
 put-part-spec =
     tie.close
     (tie.spec
-    (λ c. search needs)
-    (λ c. search needs)
-    (λ c. search needs)
-    (λ c. search needs)
+    (λ c. search needs) (λ c. search needs) (λ c. search needs) (λ c. search needs)
     (λ c κs. let a = c .before .before .before .before .args in rw (span (a .from) (a .n)) (c .before .before .before .before .pre .1))
     (λ c. search needs)
     (λ c. let a = c .before .before .before .before .before .before .before .args in rw (span (a .from) (a .n)) at (c .before .before .put-text .ensures)))

@@ -54,8 +54,7 @@ pub +put-numeral-spec : {M : Type 1} → statement M
     (λ c κs. let a = c .before .before .before .before .before .before .args in room-as (sym (letter (c .before .before .before .digit-of .ensures) ∙ last (a .base) (a .short) (a .most) (a .n) (c .before .before .before .before .if1 .left) (sym (c .before .before .ends .ensures) ∙ c .before .if2 .taken))) (c .before .before .before .before .before .before .pre .1 .2))
     (λ c. search needs)
     (λ c. let a = c .before .before .before .before .before .before .before .before .before .args in puts-as (letter (c .before .before .before .before .before .before .digit-of .ensures) ∙ last (a .base) (a .short) (a .most) (a .n) (c .before .before .before .before .before .before .before .if1 .left) (sym (c .before .before .before .before .before .ends .ensures) ∙ c .before .before .before .before .if2 .taken)) (c .before .before .put-byte .ensures))
-    (λ c. search needs)
-    (λ c. search needs)
+    (λ c. search needs) (λ c. search needs)
     (λ c κs. let a = c .before .before .before .before .before .before .args in
     (omega arith, (c .before .before .before .before .before .before .pre .1 .0, c .before .before .before .before .before .before .pre .1 .1, room-left (digit (a .n % a .base) ∷ []) (room-as (sym (more (a .base) (a .short) (a .most) (a .n) (c .before .before .before .before .if1 .left) (sym (c .before .before .ends .ensures) ∙ c .before .if2 .left))) (c .before .before .before .before .before .before .pre .1 .2)))))
     (λ c κs. let a = c .before .before .before .before .before .before .before .before .before .before .args in room-right (c .before .before .before .put-numeral .ensures) (room-as (sym (ap (λ (d : ℕ). numeral (a .base) (a .short) (a .most - 1) (a .n / a .base) ++ d ∷ []) (c .before .before .before .before .before .before .before .digit-of .ensures) ∙ more (a .base) (a .short) (a .most) (a .n) (c .before .before .before .before .before .before .before .before .if1 .left) (sym (c .before .before .before .before .before .before .ends .ensures) ∙ c .before .before .before .before .before .if2 .left))) (c .before .before .before .before .before .before .before .before .before .before .pre .1 .2)))

@@ -37,8 +37,7 @@ blank-spec =
     Inv-loop
     μ-loop
     (λ c. (omega arith, refl, refl))
-    (λ c. omega arith)
-    (λ c. omega arith)
+    (λ c. omega arith) (λ c. omega arith)
     (λ c. simp length-set (omega arith))
     loop-again
     (λ c. c .before .loop .inv .1)

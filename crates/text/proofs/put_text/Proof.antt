@@ -39,11 +39,7 @@ put-text-spec =
     Inv-loop
     μ-loop
     (λ c. (omega arith, refl, rw add-zero))
-    (λ c. omega arith)
-    (λ c. omega arith)
-    (λ c. omega arith)
-    (λ c. omega arith)
-    (λ c. omega arith)
+    (λ c. omega arith) (λ c. omega arith) (λ c. omega arith) (λ c. omega arith) (λ c. omega arith)
     loop-again
     (λ c. omega arith)
     (λ c. c .before .loop .inv .1)

@@ -102,8 +102,7 @@ packed-spec =
     Inv-loop
     μ-loop
     (λ c. start (c .before .before .pre))
-    (λ c. omega arith)
-    (λ c. omega arith)
+    (λ c. omega arith) (λ c. omega arith)
     (λ c. omega (arith, c .before .before .before .before .before .pre .fields))
     (λ c κs. width-small (c .before .before .before .before .before .pre) (c .before .before .loop .inv) (c .before .loop-test .taken))
     (λ c. omega arith)

@@ -8,11 +8,7 @@ pub read-element-spec : {M : Type 1} → statement M
 read-element-spec =
     tie.close
     (tie.spec
-    (λ c. search needs)
-    (λ c. search needs)
-    (λ c κs. search needs)
-    (λ c κs. search needs)
-    (λ c κs. search needs)
+    (λ c. search needs) (λ c. search needs) (λ c κs. search needs) (λ c κs. search needs) (λ c κs. search needs)
     (λ c κs. search needs)
     (λ c. rw (eq-eqb _ _ (c .before .before .if1 .taken)) (cc))
     (λ c. rw (ne-eqb _ _ (c .before .before .if1 .left)) (cc)))

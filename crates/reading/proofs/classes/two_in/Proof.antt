@@ -7,15 +7,8 @@ pub two-in-spec : {M : Type 1} → statement M
 two-in-spec =
     tie.close
     (tie.spec
-    (λ c. search needs)
-    (λ c κs. search needs)
-    (λ c. search needs)
-    (λ c. search needs)
-    (λ c κs. search needs)
-    (λ c κs. search needs)
-    (λ c. search needs)
-    (λ c κs. search needs)
-    (λ c κs. search needs)
+    (λ c. search needs) (λ c κs. search needs) (λ c. search needs) (λ c. search needs) (λ c κs. search needs)
+    (λ c κs. search needs) (λ c. search needs) (λ c κs. search needs) (λ c κs. search needs)
     (λ c. rw (c .enum-told .given .1))
     (λ c. rw (c .before .before .enum-told2 .given .1) (cc))
     (λ c. rw (c .before .before .before .cell .given .1) (cc)))

@@ -1,9 +1,9 @@
 -- `state::setup::check`: the first limit is tested, and the rest is `later`'s. Assumes nothing.
 use Rattle.state.proofs.TestLaws.{generals-sized}
-use Rattle.state.specs.Setup.{refusal, first}
+use Rattle.state.specs.Setup.{setupNumber, refusal, first}
 use borrow.Author.Needs.{needs}
 use lib.ListN.{length}
-use mathlib.Core.Path.{sym, _∙_}
+use mathlib.Core.Path.{refl, sym, ap, _∙_}
 use Rattle.state.proofs.setup.check.Statement.{statement}
 use Rattle.state.proofs.setup.check.Tie as tie
 
@@ -12,11 +12,13 @@ later-requires c κs = generals-sized (length (c .before .before .before .before
 
 returns : tie.Need-returns
 unfolding refusal first
-returns c = rw (← c .before .registers-bad .ensures, c .if1 .taken)
+returns c = rw (← c .before .registers-bad .ensures, c .if1 .taken) (record { answer = refl; number = refl })
 
 returns-2 : tie.Need-returns-2
 unfolding refusal first
-returns-2 c = rw (← c .before .before .registers-bad .ensures, c .before .if1 .left) (c .later .ensures)
+returns-2 c =
+    rw (← c .before .before .registers-bad .ensures, c .before .if1 .left)
+    (record { answer = c .later .ensures; number = ap setupNumber (c .later .ensures) })
 
 pub check-spec : {M : Type 1} → statement M
 check-spec =

@@ -1,12 +1,12 @@
--- `list::print_line` is safe: a line that was answered is no longer than 64 bytes. Assumes nothing.
+-- `lister::print_line` is safe: a line that was answered is no longer than 64 bytes. Assumes nothing.
 use Rattle.listing.proofs.Lines.{answered-fits}
 use borrow.Author.Needs.{needs}
 use lib.ListN.{replicate}
 use lib.Seq.{length-take-le}
 use mathlib.Core.Path.{sym}
 use native.Mathlib.Omega.{arith}
-use Rattle.list.proofs.print_line.Statement.{statement}
-use Rattle.list.proofs.print_line.Tie as tie
+use Rattle.lister.proofs.print_line.Statement.{statement}
+use Rattle.lister.proofs.print_line.Tie as tie
 
 pub print-line-spec : {M : Type 1} → statement M
 print-line-spec =

@@ -1,4 +1,4 @@
--- `machine::step::advance`: each way out puts what the calls answered into the definition. Assumes nothing.
+-- `machine::advance::advance`: each way out puts what the calls answered into the definition. Assumes nothing.
 use Rattle.machine.proofs.StepLaws.{stopped-is}
 use Rattle.machine.specs.Step.{stepOf, unreadStop, stoppedWith}
 use Rattle.plan.proofs.PlanLaws.{planned-there}
@@ -7,8 +7,8 @@ use Rattle.words.proofs.Answers.{read-formed}
 use borrow.Author.Needs.{needs}
 use mathlib.Core.Path.{refl, sym, ap, _∙_}
 use native.Mathlib.Omega.{arith}
-use Rattle.machine.proofs.step.advance.Statement.{statement}
-use Rattle.machine.proofs.step.advance.Tie as tie
+use Rattle.machine.proofs.advance.advance.Statement.{statement}
+use Rattle.machine.proofs.advance.advance.Tie as tie
 
 returns : tie.Need-returns
 unfolding stepOf
