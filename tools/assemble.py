@@ -1,4 +1,5 @@
-"""assemble.py FILE.s..: writes FILE.hex (a word a line) and FILE.lst (the listing, base 0) beside each source.
+"""assemble.py FILE.s..: writes FILE.hex (a word a line), FILE.words (the words as little-endian bytes, what `list` reads) and FILE.lst
+(the listing, base 0) beside each source.
 assemble.py --check DIR: assembles each DIR/*.s and compares with the DIR/*.hex that stands there.
 
 The words come from the encoding table ../shared/isa/instructions.tsv: format, minor opcode, operation field. A source line is
@@ -106,6 +107,8 @@ def main(names):
         code = assemble(path)
         with open(path[:-2] + ".hex", "w") as f:
             f.writelines(f"{w:08X}\n" for w, _ in code)
+        with open(path[:-2] + ".words", "wb") as f:
+            f.writelines(w.to_bytes(4, "little") for w, _ in code)
         with open(path[:-2] + ".lst", "w") as f:
             f.writelines(f"{4 * i:08X}: {w:08X} {text}\n" for i, (w, text) in enumerate(code))
 

@@ -9,7 +9,6 @@ use Rattle.isa.specs.declared.Vreg.{Vreg}
 use Rattle.memory.specs.Bytes.{part, replaced, number, bytesOf, AreBytes}
 use Rattle.memory.specs.File.{registerAt, withRegister}
 use Rattle.memory.specs.Value.{value, register, Holds}
-use Rattle.memory.proofs.Values.{bytesOf-register}
 use Rattle.memory.proofs.Parts.{part-past, length-part, length-replaced, part-replaced, part-before, part-after}
 use Rattle.memory.proofs.Numbers.{length-bytesOf, number-below, part-bytes, number-bytesOf}
 
@@ -22,11 +21,6 @@ registerAt-below file r h long small =
 pub no-register : (file : List ℕ) (r : Vreg) → length file ≡ 512 → 31 < r .0 → Holds (record { low = 0; high = 0 }) (registerAt file r)
 unfolding registerAt number register
 no-register file r long past = rw (part-past file (16 * r .0) 16 (omega arith)) (record { is = refl; exact = refl })
-
--- what is written of the register of x is x
-pub withRegister-register : (file : List ℕ) (r : Vreg) (x : ℕ) → withRegister file r (value (register x)) ≡ withRegister file r x
-unfolding withRegister
-withRegister-register file r x = ap (replaced file (16 * r .0)) (bytesOf-register x)
 
 module _ (file : List ℕ) (r : Vreg) (x : ℕ) (long : length file ≡ 512) (small : r .0 < 32) where
   fits : 16 * r .0 + length (bytesOf 16 x) ≤ length file

@@ -6,7 +6,7 @@ use native.Mathlib.Decide.{decLe}
 use native.Mathlib.Omega.{arith}
 use native.Mathlib.Numerals.{add-one}
 use lib.ListN.{length, getD, take, drop, set, length-take, List·getD-eq-default}
-use lib.Pow.{pow-add, mod-pow-add, mod-mod-pow, field}
+use lib.Pow.{pow-add, mod-pow-add}
 use lib.Seq.{drop-cons, paste, paste-zero, paste-suc, length-paste, take-add, drop-drop}
 use Rattle.memory.specs.Bytes.{part, replaced, number, bytesOf, AreBytes}
 use Rattle.memory.proofs.Parts.{getD-part, length-part, paste-replaced, replaced-beside}
@@ -27,14 +27,6 @@ number-bytesOf zero x = omega arith
 number-bytesOf (suc n) x =
     let place : 8 * suc n ≡ 8 * n + 8 = omega arith in
     rw place (omega (arith, number-bytesOf n (x / 256), mod-pow-add x (8 * n) 8))
-
--- no byte of x comes from above
-pub bytesOf-low : (n x : ℕ) → bytesOf n (x % 2 ^ (8 * n)) ≡ bytesOf n x
-unfolding bytesOf
-bytesOf-low zero x = refl
-bytesOf-low (suc n) x =
-    let place : 8 * suc n ≡ 8 * n + 8 = omega arith in
-    rw place (ap₂ _∷_ (mod-mod-pow x (8 * n) 8) (ap (bytesOf n) (field x (8 * n) 8) ∙ bytesOf-low n (x / 256)))
 
 -- the bytes of the number that bytes spell are those bytes
 pub bytesOf-number : (s : List ℕ) → AreBytes s → bytesOf (length s) (number s) ≡ s

@@ -1,12 +1,10 @@
 -- A register in two words and its number: each is the other's inverse.
 use mathlib.Core.Path.{_≡_, refl, sym, ap, _∙_}
 use Prim.Native.Nat.{ℕ, _*_, _/_, _%_, _^_, _<_}
-use native.Mathlib.Nat.{add-comm, mod-lt, mod-eq-of-lt}
+use native.Mathlib.Nat.{add-comm, mod-eq-of-lt}
 use lib.Arith.{digits-lt}
-use lib.Pow.{pow-pos, mod-pow-add}
+use lib.Pow.{mod-pow-add}
 use lib.Pow as pow
-use Rattle.memory.specs.Bytes.{bytesOf}
-use Rattle.memory.proofs.Numbers.{bytesOf-low}
 use Rattle.memory.specs.declared.Register.{Register}
 use Rattle.memory.specs.Value.{value, register, Holds}
 
@@ -18,20 +16,12 @@ pub record Words (r : Register) : Type 0 where
 pub value-below : {r : Register} → Words r → value r < 2 ^ 128
 value-below {r} h = rw (add-comm (r .low) (r .high * 2 ^ 64)) (digits-lt (h .high) (h .low))
 
-pub register-words : (x : ℕ) → Words (register x)
-unfolding register
-register-words x = record { low = mod-lt x (pow-pos 64); high = mod-lt (x / 2 ^ 64) (pow-pos 64) }
-
 pub value-register : (x : ℕ) → value (register x) ≡ x % 2 ^ 128
 unfolding register
 value-register x = add-comm (x % 2 ^ 64) (x / 2 ^ 64 % 2 ^ 64 * 2 ^ 64) ∙ sym (mod-pow-add x 64 64)
 
 pub value-exact : {x : ℕ} → x < 2 ^ 128 → value (register x) ≡ x
 value-exact {x} h = value-register x ∙ mod-eq-of-lt h
-
--- the sixteen bytes of the register of x are those of x
-pub bytesOf-register : (x : ℕ) → bytesOf 16 (value (register x)) ≡ bytesOf 16 x
-bytesOf-register x = ap (bytesOf 16) (value-register x) ∙ bytesOf-low 16 x
 
 -- two words are the register of their number
 pub register-value : {r : Register} → Words r → r ≡ register (value r)
@@ -49,6 +39,3 @@ is-register h e = register-value h ∙ ap register e
 
 pub holds : {r : Register} {x : ℕ} → Words r → value r ≡ x → Holds r x
 holds h e = record { is = is-register h e; exact = e }
-
-pub holds-register : {x : ℕ} → x < 2 ^ 128 → Holds (register x) x
-holds-register h = record { is = refl; exact = value-exact h }

@@ -1,7 +1,7 @@
 // Reading a 32-bit word as one instruction, or as 12, 13 or 14.
 mod classes;
 mod operands;
-pub mod places;
+mod places;
 
 use crate::classes::bit_at;
 use crate::classes::branch_in;

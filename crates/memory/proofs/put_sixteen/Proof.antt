@@ -8,7 +8,8 @@ use Rattle.memory.proofs.put_sixteen.Tie as tie
 returns : tie.Need-returns
 returns c =
     let s = c .before .before .before .before .before .before .before .before .before in
-    cc (replaced-two (s .args .d .now) (s .args .at) 8 8 (s .args .v .low) (s .args .v .high) (omega (arith, s .pre)) (search needs))
+    rw (c .before .before .put-eight2 .ensures, c .before .before .before .before .before .before .put-eight .ensures)
+    (replaced-two (s .args .d .now) (s .args .at) 8 8 (s .args .v .low) (s .args .v .high) (omega (arith, s .pre)) (search needs))
 
 pub put-sixteen-spec : {M : Type 1} → statement M
 put-sixteen-spec =

@@ -1,6 +1,6 @@
 -- `vectors::in_word` meets its contract. A shift and a remainder.
 use borrow.Author.Needs.{needs}
-use mathlib.Core.Path.{_≡_}
+use mathlib.Core.Path.{_≡_, refl}
 use native.Mathlib.Omega.{arith}
 use Rattle.element.proofs.Widths.{size}
 use Rattle.isa.specs.Widths.{bits}
@@ -18,7 +18,7 @@ shr-low c = let start = c .before in rw (c .count .ensures) (omega (arith, insid
 
 returns : tie.Need-returns
 unfolding element
-returns c = let a = c .before .before .args in let e : c .low .result ≡ element (bits (a .w)) (a .x) (a .i) = cc in
+returns c = let a = c .before .before .args in let e : c .low .result ≡ element (bits (a .w)) (a .x) (a .i) = rw (c .low .ensures, c .before .count .ensures) refl in
     record { is = e; below = omega (arith, element-below (bits (a .w)) (a .x) (a .i)) }
 
 pub in-word-spec : {M : Type 1} → statement M

@@ -2,12 +2,15 @@
 use Rattle.plan.proofs.NumberLaws.{scaled-sum-on}
 use Rattle.plan.specs.Numbers.{target}
 use borrow.Author.Needs.{needs}
+use mathlib.Core.Path.{sym}
 use Rattle.plan.proofs.address.target_of.Statement.{statement}
 use Rattle.plan.proofs.address.target_of.Tie as tie
 
 returns : tie.Need-returns
 unfolding target
-returns c = cc (scaled-sum-on (c .before .before .before .before .args .pc) 4 4 _)
+returns c =
+    rw (c .addv2 .ensures, c .before .addv .ensures, c .before .before .mulv .ensures, c .before .before .before .extend .ensures)
+    (sym (scaled-sum-on (c .before .before .before .before .args .pc) 4 4 _))
 
 pub target-of-spec : {M : Type 1} → statement M
 target-of-spec =

@@ -1,5 +1,6 @@
 -- `plan::planned::branch_early`: by the mark. Assumes nothing.
 use borrow.Author.Needs.{needs}
+use mathlib.Core.Path.{refl}
 use Rattle.plan.proofs.planned.branch_early.Statement.{statement}
 use Rattle.plan.proofs.planned.branch_early.Tie as tie
 
@@ -9,4 +10,4 @@ returns c = rw (c .before .enum-told .given .1) (c .switched-early .ensures)
 pub branch-early-spec : {M : Type 1} → statement M
 branch-early-spec =
     tie.close (tie.spec
-    (λ c. search needs) (λ c κs. search needs) (λ c. search needs) (λ c. search needs) returns (λ c. cc) (λ c. cc))
+    (λ c. search needs) (λ c κs. search needs) (λ c. search needs) (λ c. search needs) returns (λ c. rw (c .enum-told2 .given .1) refl) (λ c. rw (c .enum-told3 .given .1) refl))
