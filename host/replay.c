@@ -2,7 +2,7 @@
  * and compares the answer, the count and every lent byte; then the control block's
  * own limits. Usage: replay FILE.. ; ends with status 1 where anything differs.
  *
- * Each case is run four ways: as it stands; with a target that a mark other than 2
+ * Each case is run in up to three ways: as it stands; with a target that a mark other than 2
  * must leave unread; a step also as a run of budget 1; a run also step by step.
  */
 #include <inttypes.h>
