@@ -1,5 +1,5 @@
 #!/usr/bin/env python3
-"""Holds docs/PROMISES.md and docs/READING.md to the repository: every must-fail edit is named and every label named exists, every public function of
+"""Holds docs/PROMISES.md and docs/READING.md to the repository: every must-fail edit, and every one of tools/more_edits, is named and every label named exists, every public function of
 the library crates has a line, every theorem and every path named is there. Prints what is missing; ends with status 1 if anything is."""
 import glob
 import os
@@ -12,7 +12,7 @@ missing = []
 promises = open("docs/PROMISES.md").read()
 words = set(re.findall(r"[\w-]+", promises))
 
-labels = {os.path.basename(p)[:-5] for p in glob.glob("crates/*/must-fail/*.edit")}
+labels = {os.path.basename(p)[:-5] for p in glob.glob("crates/*/must-fail/*.edit") + glob.glob("tools/more_edits/*/*.edit")}
 missing += ["edit without a line: " + label for label in sorted(labels - words)]
 table = promises.split("## Public functions")[1].split("## The listing")[0]
 for row in table.split("\n"):
