@@ -3,7 +3,7 @@
 #
 #     tools/more_edits.sh [CRATE..]      without names, every crate that has some
 #
-# Each must be refused, as in the gate. What is proved already (target/) is taken over.
+# Each must be refused, as in the gate; ends with status 1 if one is not. Then says how each was refused. What is proved already (target/) is taken over.
 set -eu
 root=$(cd "$(dirname "$0")/.." && pwd)
 copy=$(mktemp -d)
@@ -16,4 +16,8 @@ for crate in "$@"; do
     cp -r "$root/tools/more_edits/$crate" "$copy/crates/$crate/must-fail"
 done
 cd "$copy"
-rt must-fail "$@" 2>&1 | grep '^rt: \(must-fail\|ok\|FAILED\)'
+status=0
+rt must-fail "$@" >"$copy/said" 2>&1 || status=1
+grep '^rt: \(must-fail\|ok\|FAILED\)' "$copy/said" || status=1
+"$root/tools/refusals.py" "$copy/target/must-fail"
+exit $status

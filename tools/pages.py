@@ -1,6 +1,7 @@
 #!/usr/bin/env python3
-"""Holds docs/PROMISES.md and docs/READING.md to the repository: every must-fail edit, and every one of tools/more_edits, is named and every label named exists, every public function of
-the library crates has a line, every theorem and every path named is there. Prints what is missing; ends with status 1 if anything is."""
+"""Holds docs/PROMISES.md and docs/READING.md to the repository: every public function of the library crates has a line with two wrong answers or more, each of which is an edit of its
+crate, in the gate (crates/NAME/must-fail) or by hand (tools/more_edits/NAME) as the line says; every edit is named; every theorem and every path named is there. Prints what is missing;
+ends with status 1 if anything is."""
 import glob
 import os
 import re
@@ -10,28 +11,38 @@ root = os.path.join(os.path.dirname(os.path.abspath(__file__)), "..")
 os.chdir(root)
 missing = []
 promises = open("docs/PROMISES.md").read()
-words = set(re.findall(r"[\w-]+", promises))
 
-labels = {os.path.basename(p)[:-5] for p in glob.glob("crates/*/must-fail/*.edit") + glob.glob("tools/more_edits/*/*.edit")}
-missing += ["edit without a line: " + label for label in sorted(labels - words)]
-table = promises.split("## Public functions")[1].split("## The listing")[0]
-for row in table.split("\n"):
-    cells = row.split("|")
-    if len(cells) == 5:
-        for label in re.findall(r"`(?:\w+/)?(\w+)`", cells[3]):
-            if label not in labels and not os.path.isdir("crates/" + label):
-                missing.append("label without an edit: " + label)
+gate = {p.split("/")[1] + "/" + os.path.basename(p)[:-5] for p in glob.glob("crates/*/must-fail/*.edit")}
+by_hand = {p.split("/")[2] + "/" + os.path.basename(p)[:-5] for p in glob.glob("tools/more_edits/*/*.edit")}
+both = gate & by_hand
+missing += ["in the gate and by hand: " + label for label in sorted(both)]
+named = set(re.findall(r"`(\w+/\w+)`", promises))
+lines = set()
+table = promises.split("## Public functions")[1].split("**The statements themselves**")[0]
+for row in re.findall(r"(?m)^\| `([\w:]+)` \|(.*)\|(.*)\|(.*)\|$", table):
+    function, _, in_gate, hand = row
+    crate = function.split("::")[0]
+    lines.add(function)
+    here = [(crate + "/" + label, gate) for label in re.findall(r"`(\w+)`", in_gate)] + [(crate + "/" + label, by_hand) for label in re.findall(r"`(\w+)`", hand)]
+    missing += ["label without an edit there: " + label for label, edits in here if label not in edits]
+    if len(here) < 2:
+        missing.append("fewer than two wrong answers: " + function)
+    named |= {label for label, _ in here}
+missing += ["edit without a line: " + label for label in sorted((gate | by_hand) - named)]
+missing += ["label without an edit: " + label for label in sorted(named - gate - by_hand) if os.path.isdir("crates/" + label.split("/")[0] + "/src") and not os.path.exists("crates/" + label)]
 
+functions = set()
 for line in open("crates.txt"):
     crate = line.split(":")[0]
     lib = "crates/%s/src/lib.rt" % crate
     if not re.match(r"\w+:", line) or not os.path.exists(lib):
         continue
-    public = {"lib"} | set(re.findall(r"(?m)^pub mod (\w+);", open(lib).read()))
+    public = ["lib"] + re.findall(r"(?m)^pub mod (\w+);", open(lib).read())
     for name in public:
-        for function in re.findall(r'(?m)^pub (?:extern "C" )?fn (\w+)', open("crates/%s/src/%s.rt" % (crate, name)).read()):
-            if function not in words and not function.endswith("_code"):
-                missing.append("public function without a line: %s::%s" % (crate, function))
+        path = crate if name == "lib" else crate + "::" + name
+        functions |= {path + "::" + f for f in re.findall(r'(?m)^pub (?:extern "C" )?fn (\w+)', open("crates/%s/src/%s.rt" % (crate, name)).read())}
+missing += ["public function without a line: " + f for f in sorted(functions - lines)]
+missing += ["line without a public function: " + f for f in sorted(lines - functions)]
 
 proofs = "\n".join(open(p).read() for p in glob.glob("crates/*/proofs/**/*.antt", recursive=True))
 for page in ["docs/PROMISES.md", "docs/READING.md"]:

@@ -1,5 +1,9 @@
 // The layout of each class, Figures 3-36 to 3-47, and the page of LSA.
 use crate::Layout;
+use crate::places::bit_code;
+use crate::places::bit_size;
+use crate::places::element_count;
+use crate::places::element_place_code;
 use codes::bit_op_code;
 use codes::copied_code;
 use codes::count_code;
@@ -32,7 +36,6 @@ use isa::Vreg;
 use isa::Width;
 use isa::Zero;
 ghost use mathlib.Core.Path.{_≡_};
-ghost use Rattle.isa.specs.Widths as format;
 ghost use Rattle.writing.specs.Writing as writing;
 
 const I8: [u32; 7] = [6, 2, 8, 5, 5, 6, 0];
@@ -54,52 +57,6 @@ const MI10: [u32; 7] = [6, 10, 5, 5, 4, 2, 0];
 const BRANCH: [u32; 7] = [6, 3, 2, 5, 16, 0, 0];
 
 const SPECIAL: [u32; 7] = [6, 5, 5, 5, 3, 2, 6];
-
-pub fn bit_size(df: Width) -> u8
-    ensures { λ r. ⌜ r ≡ format.bits df ⌝ }
-{
-    match df {
-        Width::B => 8,
-        Width::H => 16,
-        Width::W => 32,
-        Width::D => 64,
-    }
-}
-
-pub fn bit_code(df: Width, m: u8) -> u32
-    ensures { λ r. ⌜ r ≡ writing.bitCode df m ⌝ }
-{
-    let m = m as u32;
-    match df {
-        Width::B => 112 + m,
-        Width::H => 96 + m,
-        Width::W => 64 + m,
-        Width::D => m,
-    }
-}
-
-pub fn element_count(df: Width) -> u8
-    ensures { λ r. ⌜ r ≡ format.elements df ⌝ }
-{
-    match df {
-        Width::B => 16,
-        Width::H => 8,
-        Width::W => 4,
-        Width::D => 2,
-    }
-}
-
-pub fn element_place_code(df: Width, n: u8) -> u32
-    ensures { λ r. ⌜ r ≡ writing.elementPlaceCode df n ⌝ }
-{
-    let n = n as u32;
-    match df {
-        Width::B => n,
-        Width::H => 32 + n,
-        Width::W => 48 + n,
-        Width::D => 56 + n,
-    }
-}
 
 pub fn three_layout(op: Three, df: Width, wd: Vreg, ws: Vreg, wt: Vreg) -> Layout
     ensures { λ r. ⌜ r ≡ writing.layoutOf (Instr.Three op df wd ws wt) ⌝ }

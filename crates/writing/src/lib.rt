@@ -1,5 +1,6 @@
 // Writing an instruction as its 32-bit word, or refusal 6.
 mod layouts;
+mod places;
 
 use crate::layouts::bit_layout;
 use crate::layouts::branch_layout;

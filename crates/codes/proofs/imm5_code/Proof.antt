@@ -9,5 +9,5 @@ imm5-code-spec =
     (tie.spec
     (λ c. search needs) (λ c. search needs) (λ c κs. search needs) (λ c. search needs) (λ c. search needs)
     (λ c. search needs) (λ c κs. search needs) (λ c. search needs)
-    (λ c. rw (c .before .before .x .given .1) (cc))
-    (λ c. rw (c .before .before .x2 .given .1) (cc)))
+    (λ c. rw (c .before .before .x .given .1, c .basic-code .ensures .0))
+    (λ c. rw (c .before .before .x2 .given .1, c .compare-code .ensures .0)))

@@ -20,7 +20,7 @@ loop-again c =
     let i : ℕ = c .before .loop .i in (
       simp length-set (omega arith),
       simp length-set (inv .1),
-      rw (add-one i, take-suc-set (c .before .loop .line) i 32 (c .loop-test .taken), inv .2, replicate-append-replicate {A = ℕ} i 1 32, add-one i),
+      rw (← replicate-append-replicate {A = ℕ} i 1 32, add-one i, take-suc-set (c .before .loop .line) i _ (c .loop-test .taken), inv .2),
     )
 
 returns : tie.Need-returns Inv-loop μ-loop

@@ -7,7 +7,7 @@ use Rattle.linear.proofs.order.max_a.Tie as tie
 
 returns : tie.Need-returns
 unfolding larger
-returns c = cc
+returns c = rw (← c .before .before .magnitude .ensures .is, ← c .before .magnitude2 .ensures .is) (c .pick .ensures)
 
 pub max-a-spec : {M : Type 1} → statement M
 max-a-spec = tie.close (tie.spec (λ c κs. search needs) (λ c κs. search needs) (λ c κs. search needs) returns)

@@ -7,7 +7,7 @@ use Rattle.linear.proofs.order.min_a.Tie as tie
 
 returns : tie.Need-returns
 unfolding smaller
-returns c = cc
+returns c = rw (← c .before .before .magnitude .ensures .is, ← c .before .magnitude2 .ensures .is) (c .pick .ensures)
 
 pub min-a-spec : {M : Type 1} → statement M
 min-a-spec = tie.close (tie.spec (λ c κs. search needs) (λ c κs. search needs) (λ c κs. search needs) returns)

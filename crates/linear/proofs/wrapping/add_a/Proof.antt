@@ -7,7 +7,7 @@ use Rattle.linear.proofs.wrapping.add_a.Tie as tie
 
 returns : tie.Need-returns
 unfolding addA addv
-returns c = cc
+returns c = rw (c .addv .ensures, c .before .before .magnitude .ensures .is, c .before .magnitude2 .ensures .is)
 
 pub add-a-spec : {M : Type 1} → statement M
 add-a-spec = tie.close (tie.spec (λ c κs. search needs) (λ c κs. search needs) (λ c κs. search needs) returns)

@@ -2,6 +2,7 @@
 use borrow.Author.Needs.{needs}
 use borrow.Author.Tests.{eq-eqb, ne-eqb}
 use mathlib.Core.Path.{refl}
+use Prim.Native.Nat.{_/_, _%_}
 use native.Mathlib.Omega.{arith}
 use lib.Pow.{pow-pos}
 use Rattle.permute.specs.Permute.{chosenByControl}
@@ -18,13 +19,15 @@ rem-both c = omega (arith, few (c .before .before .before .args .w))
 returns : tie.Need-returns
 unfolding chosenByControl
 returns c =
-    rw (← c .before .before .before .element-at .ensures .is, eq-eqb _ _ (c .before .before .if1 .taken), ← c .before .elements .ensures)
+    let control = c .before .before .before .element-at in
+    rw (← control .ensures .is, eq-eqb (control .result / 64 % 4) 0 (c .before .before .if1 .taken), ← c .before .elements .ensures)
     (c .both .ensures)
 
 returns-2 : tie.Need-returns-2
 unfolding chosenByControl
 returns-2 c =
-    rw (← c .before .element-at .ensures .is, ne-eqb _ _ (c .if1 .left)) (record { is = refl; below = pow-pos _ })
+    let control = c .before .element-at in
+    rw (← control .ensures .is, ne-eqb (control .result / 64 % 4) 0 (c .if1 .left)) (record { is = refl; below = pow-pos _ })
 
 pub by-control-spec : {M : Type 1} → statement M
 by-control-spec =

@@ -7,7 +7,7 @@ use Rattle.plan.proofs.scaled.dlsa_of.Tie as tie
 
 returns : tie.Need-returns
 unfolding dlsa
-returns c = cc (mul-add 64 (c .before .before .before .args .x) (c .before .before .factor .result) (c .before .before .before .args .y))
+returns c = rw (c .addv .ensures, c .before .mulv .ensures, ← c .before .before .factor .ensures) (mul-add 64 _ _ _)
 
 pub dlsa-of-spec : {M : Type 1} → statement M
 dlsa-of-spec =

@@ -1,7 +1,7 @@
--- `writing::layouts::bit_code` meets its contract. Assumes nothing.
+-- `writing::places::bit_code` meets its contract. Assumes nothing.
 use borrow.Author.Needs.{needs}
-use Rattle.writing.proofs.layouts.bit_code.Statement.{statement}
-use Rattle.writing.proofs.layouts.bit_code.Tie as tie
+use Rattle.writing.proofs.places.bit_code.Statement.{statement}
+use Rattle.writing.proofs.places.bit_code.Tie as tie
 
 pub bit-code-spec : {M : Type 1} → statement M
 bit-code-spec =

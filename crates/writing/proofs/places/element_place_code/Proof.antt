@@ -1,7 +1,7 @@
--- `writing::layouts::element_place_code` meets its contract. Assumes nothing.
+-- `writing::places::element_place_code` meets its contract. Assumes nothing.
 use borrow.Author.Needs.{needs}
-use Rattle.writing.proofs.layouts.element_place_code.Statement.{statement}
-use Rattle.writing.proofs.layouts.element_place_code.Tie as tie
+use Rattle.writing.proofs.places.element_place_code.Statement.{statement}
+use Rattle.writing.proofs.places.element_place_code.Tie as tie
 
 pub element-place-code-spec : {M : Type 1} → statement M
 element-place-code-spec =
