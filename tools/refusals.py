@@ -10,8 +10,8 @@ import re
 import sys
 
 KINDS = [
-    ("terms differ", r"differ|two values are"),
-    ("omega: does not follow", r"`omega`: the goal does not follow"),
+    ("terms differ", r"differ|two (values|sides|types) are|but this has type"),
+    ("omega: does not follow", r"`omega`: the (goal|part \S+ of the goal) does not follow"),
     ("equation left over", r"what it leaves must be a path|goal `⊥`"),
     ("ensures not proved", r"it is not proved that"),
     ("search finds no proof", r"`search`: no proof"),
