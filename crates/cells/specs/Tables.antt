@@ -41,7 +41,9 @@ use Rattle.isa.specs.declared.Three.the-variants as three
 use Rattle.isa.specs.declared.Imm5.the-variants as imm5
 use Rattle.isa.specs.declared.BitOp.the-variants as bit
 use Rattle.cells.specs.declared.Row.{Row}
-use Rattle.cells.specs.declared.Row.the-variants as row
+use Rattle.cells.specs.declared.Row.the-variants.{Reserved, Three, Other}
+use Rattle.cells.specs.declared.OtherRow.{OtherRow}
+use Rattle.cells.specs.declared.OtherRow.the-variants.{I8Logic, I8Move, I8Shf, I5Basic, I5Compare, BitBitwise, BitRounding, Elm, Float26, Float27, Float28, Vec, Load, Store}
 use Rattle.cells.specs.declared.ThreeRow.{ThreeRow}
 use Rattle.cells.specs.declared.ThreeRow.the-variants as three·row
 use Rattle.cells.specs.declared.ThreeCell.{ThreeCell}
@@ -71,15 +73,15 @@ each a = eight a a a a a a a a
 
 -- Table 3.18: rows are bits 5..3, columns bits 2..0
 abbrev ✶ : Row
-✶ = row.Reserved
+✶ = Reserved
 
 abbrev pub rows : List Row
 rows =
-    eight row.Imm8Logic row.Imm8Move row.Imm8Shf ✶ ✶ ✶ row.Imm5Basic row.Imm5Compare
-    ++ eight ✶ row.BitBitwise row.BitRounding ✶ ✶ row.Bitwise row.Basic row.Compare
-    ++ eight row.Addition row.Subtraction row.Product row.Dot row.Pack row.Across ✶ ✶
-    ++ eight ✶ row.Elm row.Float26 row.Float27 row.Float28 ✶ row.Vec ✶
-    ++ eight row.Load row.Load row.Load row.Load row.Store row.Store row.Store row.Store
+    eight (Other I8Logic) (Other I8Move) (Other I8Shf) ✶ ✶ ✶ (Other I5Basic) (Other I5Compare)
+    ++ eight ✶ (Other BitBitwise) (Other BitRounding) ✶ ✶ (Three three·row.Bitwise) (Three three·row.Basic) (Three three·row.Compare)
+    ++ eight (Three three·row.Addition) (Three three·row.Subtraction) (Three three·row.Product) (Three three·row.Dot) (Three three·row.Pack) (Three three·row.Across) ✶ ✶
+    ++ eight ✶ (Other Elm) (Other Float26) (Other Float27) (Other Float28) ✶ (Other Vec) ✶
+    ++ eight (Other Load) (Other Load) (Other Load) (Other Load) (Other Store) (Other Store) (Other Store) (Other Store)
     ++ each ✶
     ++ each ✶
     ++ each ✶
@@ -102,9 +104,6 @@ threeRow three·row.Dot = eight (three·cell.Dot DotpS) (three·cell.Dot DotpU) 
 threeRow three·row.Pack = eight (three·cell.Indexed Sld) (three·cell.Indexed Splat) (three·cell.Pack Pckev) (three·cell.Pack Pckod) (three·cell.Pack Ilvl) (three·cell.Pack Ilvr) (three·cell.Pack Ilvev) (three·cell.Pack Ilvod)
 threeRow three·row.Across = eight three·cell.Vshf (three·cell.Rounding Srar) (three·cell.Rounding Srlr) ✧ (three·cell.Across HaddS) (three·cell.Across HaddU) (three·cell.Across HsubS) (three·cell.Across HsubU)
 
-abbrev pub threeIn : ThreeRow → ℕ → ThreeCell
-threeIn row k = getD (threeRow row) k ✧
-
 -- a cell of 3R as a cell of any format
 abbrev pub ofThree : ThreeCell → Cell
 ofThree three·cell.Reserved = cell.Reserved
@@ -126,7 +125,7 @@ abbrev pub ofThrees : List ThreeCell → List Cell
 ofThrees [] = []
 ofThrees (c ∷ cs) = ofThree c ∷ ofThrees cs
 
--- Tables 3.19 to 3.21, 3.27 and 3.28: a row for each minor opcode, columns are bits 25..23
+-- Tables 3.19 to 3.21, 3.27 and 3.28, and where Tables 3.22 and 3.26 stand: a row for each minor opcode, columns are bits 25..23
 abbrev ★ : Cell
 ★ = cell.Reserved
 
@@ -145,31 +144,26 @@ imm5·basic o = cell.Imm5 (imm5.Basic o)
 abbrev imm5·compare : Compare → Cell
 imm5·compare o = cell.Imm5 (imm5.Compare o)
 
+abbrev pub otherRow : OtherRow → List Cell
+otherRow I8Logic = halves (cell.Imm8 And) (cell.Imm8 Or) (cell.Imm8 Nor) (cell.Imm8 Xor)
+otherRow I8Move = halves (cell.Imm8 Bmnz) (cell.Imm8 Bmz) (cell.Imm8 Bsel) ★
+otherRow I8Shf = halves (cell.Shf B) (cell.Shf H) (cell.Shf W) ★
+otherRow I5Basic = eight (imm5·basic Addv) (imm5·basic Subv) (imm5·basic MaxS) (imm5·basic MaxU) (imm5·basic MinS) (imm5·basic MinU) ★ ★
+otherRow I5Compare = eight (imm5·compare Ceq) ★ (imm5·compare CltS) (imm5·compare CltU) (imm5·compare CleS) (imm5·compare CleU) cell.Ldi ★
+otherRow BitBitwise = eight (bit·bitwise Sll) (bit·bitwise Sra) (bit·bitwise Srl) (bit·bitwise Bclr) (bit·bitwise Bset) (bit·bitwise Bneg) (bit·bitwise Binsl) (bit·bitwise Binsr)
+otherRow BitRounding = eight (bit·saturate SatS) (bit·saturate SatU) (bit·rounding Srar) (bit·rounding Srlr) ★ ★ ★ ★
+otherRow Elm = eight cell.Elm cell.Elm cell.Elm ★ ★ ★ ★ ★
+otherRow Float26 = each cell.LeftOut
+otherRow Float27 = eight cell.LeftOut cell.LeftOut cell.LeftOut cell.LeftOdd cell.LeftEven cell.LeftEven cell.LeftOut cell.LeftOut
+otherRow Float28 = eight cell.LeftOdd cell.LeftOut cell.LeftOut cell.LeftEven cell.LeftOdd cell.LeftOut cell.LeftOut cell.LeftEven
+otherRow Vec = eight cell.Vec cell.Vec ★ ★ ★ ★ cell.Vec ★
+otherRow Load = each (cell.Memory Ld)
+otherRow Store = each (cell.Memory St)
+
 abbrev pub cells : Row → List Cell
-cells row.Reserved = []
-cells row.Imm8Logic = halves (cell.Imm8 And) (cell.Imm8 Or) (cell.Imm8 Nor) (cell.Imm8 Xor)
-cells row.Imm8Move = halves (cell.Imm8 Bmnz) (cell.Imm8 Bmz) (cell.Imm8 Bsel) ★
-cells row.Imm8Shf = halves (cell.Shf B) (cell.Shf H) (cell.Shf W) ★
-cells row.Imm5Basic = eight (imm5·basic Addv) (imm5·basic Subv) (imm5·basic MaxS) (imm5·basic MaxU) (imm5·basic MinS) (imm5·basic MinU) ★ ★
-cells row.Imm5Compare = eight (imm5·compare Ceq) ★ (imm5·compare CltS) (imm5·compare CltU) (imm5·compare CleS) (imm5·compare CleU) cell.Ldi ★
-cells row.BitBitwise = eight (bit·bitwise Sll) (bit·bitwise Sra) (bit·bitwise Srl) (bit·bitwise Bclr) (bit·bitwise Bset) (bit·bitwise Bneg) (bit·bitwise Binsl) (bit·bitwise Binsr)
-cells row.BitRounding = eight (bit·saturate SatS) (bit·saturate SatU) (bit·rounding Srar) (bit·rounding Srlr) ★ ★ ★ ★
-cells row.Bitwise = ofThrees (threeRow three·row.Bitwise)
-cells row.Basic = ofThrees (threeRow three·row.Basic)
-cells row.Compare = ofThrees (threeRow three·row.Compare)
-cells row.Addition = ofThrees (threeRow three·row.Addition)
-cells row.Subtraction = ofThrees (threeRow three·row.Subtraction)
-cells row.Product = ofThrees (threeRow three·row.Product)
-cells row.Dot = ofThrees (threeRow three·row.Dot)
-cells row.Pack = ofThrees (threeRow three·row.Pack)
-cells row.Across = ofThrees (threeRow three·row.Across)
-cells row.Elm = eight cell.Elm cell.Elm cell.Elm ★ ★ ★ ★ ★
-cells row.Float26 = each cell.LeftOut
-cells row.Float27 = eight cell.LeftOut cell.LeftOut cell.LeftOut cell.LeftOdd cell.LeftEven cell.LeftEven cell.LeftOut cell.LeftOut
-cells row.Float28 = eight cell.LeftOdd cell.LeftOut cell.LeftOut cell.LeftEven cell.LeftOdd cell.LeftOut cell.LeftOut cell.LeftEven
-cells row.Vec = eight cell.Vec cell.Vec ★ ★ ★ ★ cell.Vec ★
-cells row.Load = each (cell.Memory Ld)
-cells row.Store = each (cell.Memory St)
+cells Reserved = []
+cells (Three r) = ofThrees (threeRow r)
+cells (Other r) = otherRow r
 
 abbrev pub cellIn : Row → ℕ → Cell
 cellIn row k = getD (cells row) k ★

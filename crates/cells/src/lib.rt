@@ -1,31 +1,10 @@
 // The manual's opcode tables, 3.10, 3.17 to 3.23 and 3.25 to 3.28, cell by cell.
-mod rows;
+mod other;
 pub mod tables;
 mod three;
 
-use crate::rows::bit_bitwise_cell;
-use crate::rows::bit_rounding_cell;
-use crate::rows::elm_cell;
-use crate::rows::float26_cell;
-use crate::rows::float27_cell;
-use crate::rows::float28_cell;
-use crate::rows::imm5_basic_cell;
-use crate::rows::imm5_compare_cell;
-use crate::rows::imm8_logic_cell;
-use crate::rows::imm8_move_cell;
-use crate::rows::imm8_shf_cell;
-use crate::rows::load_cell;
-use crate::rows::store_cell;
-use crate::rows::vec_cell;
-use crate::three::across_cell;
-use crate::three::addition_cell;
-use crate::three::basic_cell;
-use crate::three::bitwise_cell;
-use crate::three::compare_cell;
-use crate::three::dot_cell;
-use crate::three::pack_cell;
-use crate::three::product_cell;
-use crate::three::subtraction_cell;
+use crate::other::other_row;
+use crate::three::three_row;
 use isa::Absolute;
 use isa::Across;
 use isa::Addition;
@@ -51,34 +30,14 @@ use isa::Width;
 use isa::Zero;
 ghost use mathlib.Core.Path.{_≡_};
 ghost use Prim.Native.Nat.{_<_};
+ghost use lib.ListN.{getD};
 ghost use Rattle.cells.specs.Tables.{ofThree, cellIn};
 
-// Table 3.18, a name for each row that has an assigned cell.
+// Table 3.18: a row with an assigned cell is one of 3R, or of another format.
 pub enum Row {
     Reserved,
-    Imm8Logic,
-    Imm8Move,
-    Imm8Shf,
-    Imm5Basic,
-    Imm5Compare,
-    BitBitwise,
-    BitRounding,
-    Bitwise,
-    Basic,
-    Compare,
-    Addition,
-    Subtraction,
-    Product,
-    Dot,
-    Pack,
-    Across,
-    Elm,
-    Float26,
-    Float27,
-    Float28,
-    Vec,
-    Load,
-    Store,
+    Three(ThreeRow),
+    Other(OtherRow),
 }
 
 // The rows of 3R.
@@ -92,6 +51,24 @@ pub enum ThreeRow {
     Dot,
     Pack,
     Across,
+}
+
+// The rows of I8, I5, BIT, ELM, 3RF (left out; by their minor opcodes), VEC and MI10.
+pub enum OtherRow {
+    I8Logic,
+    I8Move,
+    I8Shf,
+    I5Basic,
+    I5Compare,
+    BitBitwise,
+    BitRounding,
+    Elm,
+    Float26,
+    Float27,
+    Float28,
+    Vec,
+    Load,
+    Store,
 }
 
 // What a row of 3R and bits 25..23 choose: kept flat, since a table of nested enums takes far longer to check.
@@ -191,34 +168,30 @@ fn of_three(cell: ThreeCell) -> Cell
     }
 }
 
+// The cell in column k of a row.
+fn column(cells: [Cell; 8], k: usize) -> Cell
+    requires { ⌜ k < 8 ⌝ }
+    ensures { λ r. ⌜ r ≡ getD cells k Cell.Reserved ⌝ }
+{
+    cells[k]
+}
+
+// The same of a row of 3R.
+fn three_column(cells: [ThreeCell; 8], k: usize) -> ThreeCell
+    requires { ⌜ k < 8 ⌝ }
+    ensures { λ r. ⌜ r ≡ getD cells k ThreeCell.Reserved ⌝ }
+{
+    cells[k]
+}
+
+// What a row and bits 25..23 choose.
 pub fn cell_in(row: Row, k: usize) -> Cell
     requires { ⌜ k < 8 ⌝ }
     ensures { λ r. ⌜ r ≡ cellIn row k ⌝ }
 {
     match row {
         Row::Reserved => Cell::Reserved,
-        Row::Imm8Logic => imm8_logic_cell(k),
-        Row::Imm8Move => imm8_move_cell(k),
-        Row::Imm8Shf => imm8_shf_cell(k),
-        Row::Imm5Basic => imm5_basic_cell(k),
-        Row::Imm5Compare => imm5_compare_cell(k),
-        Row::BitBitwise => bit_bitwise_cell(k),
-        Row::BitRounding => bit_rounding_cell(k),
-        Row::Bitwise => of_three(bitwise_cell(k)),
-        Row::Basic => of_three(basic_cell(k)),
-        Row::Compare => of_three(compare_cell(k)),
-        Row::Addition => of_three(addition_cell(k)),
-        Row::Subtraction => of_three(subtraction_cell(k)),
-        Row::Product => of_three(product_cell(k)),
-        Row::Dot => of_three(dot_cell(k)),
-        Row::Pack => of_three(pack_cell(k)),
-        Row::Across => of_three(across_cell(k)),
-        Row::Elm => elm_cell(k),
-        Row::Float26 => float26_cell(k),
-        Row::Float27 => float27_cell(k),
-        Row::Float28 => float28_cell(k),
-        Row::Vec => vec_cell(k),
-        Row::Load => load_cell(k),
-        Row::Store => store_cell(k),
+        Row::Three(r) => of_three(three_column(three_row(r), k)),
+        Row::Other(r) => column(other_row(r), k),
     }
 }

@@ -1,4 +1,4 @@
-// Table 3.25: a function for each row of eight.
+// Table 3.25: a row is eight cells.
 use crate::ThreeCell;
 use crate::ThreeRow;
 use isa::Absolute;
@@ -14,8 +14,7 @@ use isa::Product;
 use isa::Rounding;
 use isa::Subtraction;
 ghost use mathlib.Core.Path.{_≡_};
-ghost use Prim.Native.Nat.{_<_};
-ghost use Rattle.cells.specs.Tables.{threeIn};
+ghost use Rattle.cells.specs.Tables.{threeRow};
 
 // Table 3.25.
 const BITWISE: [ThreeCell; 8] = [
@@ -125,65 +124,19 @@ const ACROSS: [ThreeCell; 8] = [
     ThreeCell::Across(Across::HsubU),
 ];
 
-pub fn bitwise_cell(k: usize) -> ThreeCell
-    requires { ⌜ k < 8 ⌝ }
-    ensures { λ r. ⌜ r ≡ threeIn ThreeRow.Bitwise k ⌝ }
+// The eight cells of a row of 3R.
+pub fn three_row(row: ThreeRow) -> [ThreeCell; 8]
+    ensures { λ r. ⌜ r ≡ threeRow row ⌝ }
 {
-    BITWISE[k]
-}
-
-pub fn basic_cell(k: usize) -> ThreeCell
-    requires { ⌜ k < 8 ⌝ }
-    ensures { λ r. ⌜ r ≡ threeIn ThreeRow.Basic k ⌝ }
-{
-    BASIC[k]
-}
-
-pub fn compare_cell(k: usize) -> ThreeCell
-    requires { ⌜ k < 8 ⌝ }
-    ensures { λ r. ⌜ r ≡ threeIn ThreeRow.Compare k ⌝ }
-{
-    COMPARE[k]
-}
-
-pub fn addition_cell(k: usize) -> ThreeCell
-    requires { ⌜ k < 8 ⌝ }
-    ensures { λ r. ⌜ r ≡ threeIn ThreeRow.Addition k ⌝ }
-{
-    ADDITION[k]
-}
-
-pub fn subtraction_cell(k: usize) -> ThreeCell
-    requires { ⌜ k < 8 ⌝ }
-    ensures { λ r. ⌜ r ≡ threeIn ThreeRow.Subtraction k ⌝ }
-{
-    SUBTRACTION[k]
-}
-
-pub fn product_cell(k: usize) -> ThreeCell
-    requires { ⌜ k < 8 ⌝ }
-    ensures { λ r. ⌜ r ≡ threeIn ThreeRow.Product k ⌝ }
-{
-    PRODUCT[k]
-}
-
-pub fn dot_cell(k: usize) -> ThreeCell
-    requires { ⌜ k < 8 ⌝ }
-    ensures { λ r. ⌜ r ≡ threeIn ThreeRow.Dot k ⌝ }
-{
-    DOT[k]
-}
-
-pub fn pack_cell(k: usize) -> ThreeCell
-    requires { ⌜ k < 8 ⌝ }
-    ensures { λ r. ⌜ r ≡ threeIn ThreeRow.Pack k ⌝ }
-{
-    PACK[k]
-}
-
-pub fn across_cell(k: usize) -> ThreeCell
-    requires { ⌜ k < 8 ⌝ }
-    ensures { λ r. ⌜ r ≡ threeIn ThreeRow.Across k ⌝ }
-{
-    ACROSS[k]
+    match row {
+        ThreeRow::Bitwise => BITWISE,
+        ThreeRow::Basic => BASIC,
+        ThreeRow::Compare => COMPARE,
+        ThreeRow::Addition => ADDITION,
+        ThreeRow::Subtraction => SUBTRACTION,
+        ThreeRow::Product => PRODUCT,
+        ThreeRow::Dot => DOT,
+        ThreeRow::Pack => PACK,
+        ThreeRow::Across => ACROSS,
+    }
 }

@@ -1,6 +1,6 @@
-// Tables 3.19 to 3.21, 3.27 and 3.28, and where Tables 3.22 and 3.26 stand: a function for each row of eight.
+// Tables 3.19 to 3.21, 3.27 and 3.28, and where Tables 3.22 and 3.26 stand: a row is eight cells.
 use crate::Cell;
-use crate::Row;
+use crate::OtherRow;
 use isa::Basic;
 use isa::BitOp;
 use isa::Bitwise;
@@ -12,11 +12,10 @@ use isa::Rounding;
 use isa::Saturate;
 use isa::Width;
 ghost use mathlib.Core.Path.{_≡_};
-ghost use Prim.Native.Nat.{_<_};
-ghost use Rattle.cells.specs.Tables.{cellIn};
+ghost use Rattle.cells.specs.Tables.{otherRow};
 
 // Table 3.21, by bits 25..24.
-const IMM8_LOGIC: [Cell; 8] = [
+const I8_LOGIC: [Cell; 8] = [
     Cell::Imm8(Logic::And),
     Cell::Imm8(Logic::And),
     Cell::Imm8(Logic::Or),
@@ -28,7 +27,7 @@ const IMM8_LOGIC: [Cell; 8] = [
 ];
 
 // Table 3.21.
-const IMM8_MOVE: [Cell; 8] = [
+const I8_MOVE: [Cell; 8] = [
     Cell::Imm8(Logic::Bmnz),
     Cell::Imm8(Logic::Bmnz),
     Cell::Imm8(Logic::Bmz),
@@ -40,7 +39,7 @@ const IMM8_MOVE: [Cell; 8] = [
 ];
 
 // Table 3.21.
-const IMM8_SHF: [Cell; 8] = [
+const I8_SHF: [Cell; 8] = [
     Cell::Shf(Width::B),
     Cell::Shf(Width::B),
     Cell::Shf(Width::H),
@@ -52,7 +51,7 @@ const IMM8_SHF: [Cell; 8] = [
 ];
 
 // Table 3.20.
-const IMM5_BASIC: [Cell; 8] = [
+const I5_BASIC: [Cell; 8] = [
     Cell::Imm5(Imm5::Basic(Basic::Addv)),
     Cell::Imm5(Imm5::Basic(Basic::Subv)),
     Cell::Imm5(Imm5::Basic(Basic::MaxS)),
@@ -64,7 +63,7 @@ const IMM5_BASIC: [Cell; 8] = [
 ];
 
 // Table 3.20.
-const IMM5_COMPARE: [Cell; 8] = [
+const I5_COMPARE: [Cell; 8] = [
     Cell::Imm5(Imm5::Compare(Compare::Ceq)),
     Cell::Reserved,
     Cell::Imm5(Imm5::Compare(Compare::CltS)),
@@ -183,100 +182,24 @@ const STORE: [Cell; 8] = [
     Cell::Memory(Memory::St),
 ];
 
-pub fn imm8_logic_cell(k: usize) -> Cell
-    requires { ⌜ k < 8 ⌝ }
-    ensures { λ r. ⌜ r ≡ cellIn Row.Imm8Logic k ⌝ }
+// The eight cells of a row of another format than 3R.
+pub fn other_row(row: OtherRow) -> [Cell; 8]
+    ensures { λ r. ⌜ r ≡ otherRow row ⌝ }
 {
-    IMM8_LOGIC[k]
-}
-
-pub fn imm8_move_cell(k: usize) -> Cell
-    requires { ⌜ k < 8 ⌝ }
-    ensures { λ r. ⌜ r ≡ cellIn Row.Imm8Move k ⌝ }
-{
-    IMM8_MOVE[k]
-}
-
-pub fn imm8_shf_cell(k: usize) -> Cell
-    requires { ⌜ k < 8 ⌝ }
-    ensures { λ r. ⌜ r ≡ cellIn Row.Imm8Shf k ⌝ }
-{
-    IMM8_SHF[k]
-}
-
-pub fn imm5_basic_cell(k: usize) -> Cell
-    requires { ⌜ k < 8 ⌝ }
-    ensures { λ r. ⌜ r ≡ cellIn Row.Imm5Basic k ⌝ }
-{
-    IMM5_BASIC[k]
-}
-
-pub fn imm5_compare_cell(k: usize) -> Cell
-    requires { ⌜ k < 8 ⌝ }
-    ensures { λ r. ⌜ r ≡ cellIn Row.Imm5Compare k ⌝ }
-{
-    IMM5_COMPARE[k]
-}
-
-pub fn bit_bitwise_cell(k: usize) -> Cell
-    requires { ⌜ k < 8 ⌝ }
-    ensures { λ r. ⌜ r ≡ cellIn Row.BitBitwise k ⌝ }
-{
-    BIT_BITWISE[k]
-}
-
-pub fn bit_rounding_cell(k: usize) -> Cell
-    requires { ⌜ k < 8 ⌝ }
-    ensures { λ r. ⌜ r ≡ cellIn Row.BitRounding k ⌝ }
-{
-    BIT_ROUNDING[k]
-}
-
-pub fn elm_cell(k: usize) -> Cell
-    requires { ⌜ k < 8 ⌝ }
-    ensures { λ r. ⌜ r ≡ cellIn Row.Elm k ⌝ }
-{
-    ELM[k]
-}
-
-pub fn float26_cell(k: usize) -> Cell
-    requires { ⌜ k < 8 ⌝ }
-    ensures { λ r. ⌜ r ≡ cellIn Row.Float26 k ⌝ }
-{
-    FLOAT26[k]
-}
-
-pub fn float27_cell(k: usize) -> Cell
-    requires { ⌜ k < 8 ⌝ }
-    ensures { λ r. ⌜ r ≡ cellIn Row.Float27 k ⌝ }
-{
-    FLOAT27[k]
-}
-
-pub fn float28_cell(k: usize) -> Cell
-    requires { ⌜ k < 8 ⌝ }
-    ensures { λ r. ⌜ r ≡ cellIn Row.Float28 k ⌝ }
-{
-    FLOAT28[k]
-}
-
-pub fn vec_cell(k: usize) -> Cell
-    requires { ⌜ k < 8 ⌝ }
-    ensures { λ r. ⌜ r ≡ cellIn Row.Vec k ⌝ }
-{
-    VEC[k]
-}
-
-pub fn load_cell(k: usize) -> Cell
-    requires { ⌜ k < 8 ⌝ }
-    ensures { λ r. ⌜ r ≡ cellIn Row.Load k ⌝ }
-{
-    LOAD[k]
-}
-
-pub fn store_cell(k: usize) -> Cell
-    requires { ⌜ k < 8 ⌝ }
-    ensures { λ r. ⌜ r ≡ cellIn Row.Store k ⌝ }
-{
-    STORE[k]
+    match row {
+        OtherRow::I8Logic => I8_LOGIC,
+        OtherRow::I8Move => I8_MOVE,
+        OtherRow::I8Shf => I8_SHF,
+        OtherRow::I5Basic => I5_BASIC,
+        OtherRow::I5Compare => I5_COMPARE,
+        OtherRow::BitBitwise => BIT_BITWISE,
+        OtherRow::BitRounding => BIT_ROUNDING,
+        OtherRow::Elm => ELM,
+        OtherRow::Float26 => FLOAT26,
+        OtherRow::Float27 => FLOAT27,
+        OtherRow::Float28 => FLOAT28,
+        OtherRow::Vec => VEC,
+        OtherRow::Load => LOAD,
+        OtherRow::Store => STORE,
+    }
 }
