@@ -1,2 +1,2 @@
--- Table 4.1 and the compares of Table 4.8 on one element.
+-- Table 4.1 but SAT, and the compares of Table 4.8, on one element.
 pub mod Arith
