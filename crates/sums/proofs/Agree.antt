@@ -1,16 +1,23 @@
 -- Every sum of the list agrees, by computing. Assumes nothing.
 use mathlib.Core.Path.{_≡_, refl, _∙_}
-use Prim.Native.Nat.{ℕ, _+_, _-_, _%_, _^_}
+use mathlib.Core.List.{List}
+use Prim.Native.Nat.{ℕ, _+_, _-_, _*_, _/_, _%_, _^_}
 use native.Mathlib.Omega.{arith}
 use Rattle.element.specs.Value.{signed, magnitude, wrap, clamp, sat}
+use Rattle.each.specs.Lanes.{eachLane}
 use Rattle.linear.specs.Sums.{addv, addA, addsA, asub, subsuuS, average}
+use Rattle.memory.specs.Bytes.{number}
+use Rattle.memory.specs.File.{registerAt}
 use Rattle.permute.specs.Permute.{chosenByControl, both}
 use Rattle.plan.specs.Numbers.{target, lsa}
+use Rattle.plan.specs.Plan.{planOf, generalAt}
+use Rattle.plan.specs.Zero.{someZero}
 use Rattle.plan.proofs.NumberLaws.{scaled-sum-on}
 use Rattle.products.specs.Halves.{products, dotp, hsub}
 use Rattle.products.specs.Products.{mulv, quotient, remainder}
 use Rattle.reading.specs.Reading.{readOf}
-use Rattle.vectors.specs.Register.{element}
+use Rattle.state.specs.Machine.{Env}
+use Rattle.vectors.specs.Register.{element, build, whole}
 use Rattle.writing.specs.Writing.{writeOf}
 use Rattle.sums.specs.Sums.{Agree, sums}
 
@@ -23,7 +30,12 @@ back-four : (a : ℕ) → target a 0xFFFE ≡ (a + (2 ^ 64 - 4)) % 2 ^ 64
 unfolding target addv mulv
 back-four a = scaled-sum-on a 4 4 (signed 16 0xFFFE) ∙ rw minus-two (omega arith)
 
-pub all-agree : (a ws wt : ℕ) → Agree (sums a ws wt)
-unfolding writeOf readOf signed magnitude wrap clamp sat addA addsA asub subsuuS average quotient remainder products dotp hsub chosenByControl both element lsa
-all-agree a ws wt =
-    (refl, (refl, (refl, (refl, (refl, (refl, (back-four a, (refl, (refl, (refl, (refl, (refl, (refl, (refl, (refl, (refl, (refl, (refl, (refl, (refl, (refl, tt)))))))))))))))))))))
+-- byte 15 of a register in every byte, as the elements make it and as a product
+all-bytes : (x : ℕ) → whole 8 (λ _. x) ≡ x * 0x01010101010101010101010101010101
+unfolding build
+all-bytes x = omega arith
+
+pub all-agree : (e : Env) (v g w : List ℕ) (a ws wt : ℕ) → Agree (sums e v g w a ws wt)
+unfolding writeOf readOf signed magnitude wrap clamp sat addA addsA asub subsuuS average quotient remainder products dotp hsub eachLane build element chosenByControl both planOf registerAt generalAt number someZero lsa
+all-agree e v g w a ws wt =
+    (refl, (refl, (refl, (refl, (refl, (refl, (rw (back-four a), (refl, (refl, (refl, (refl, (refl, (refl, (refl, (refl, (refl, (refl, (refl, (refl, (all-bytes (ws / 2 ^ 120 % 2 ^ 8), (refl, tt)))))))))))))))))))))

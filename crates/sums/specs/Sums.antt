@@ -1,29 +1,34 @@
--- Document 01's sums marked P, in its order, one list: what the definitions give, and what the paper says.
+-- Document 01's sums marked P, in its order, one list: what the definitions give of an instruction, and what the paper says.
 use mathlib.Core.Path.{_≡_}
-use mathlib.Core.List.{List, [], _∷_}
-use Prim.Native.Nat.{ℕ, _+_, _-_, _%_, _^_}
+use mathlib.Core.Bool.{true}
+use mathlib.Core.List.{List, [], _∷_, _++_}
+use Prim.Native.Nat.{ℕ, _+_, _-_, _*_, _/_, _%_, _^_}
+use lib.ListN.{replicate}
 use Rattle.isa.specs.declared.Across.the-variants.{HsubS}
 use Rattle.isa.specs.declared.Addition.the-variants.{AddA, AddsA, AveS, AverS}
 use Rattle.isa.specs.declared.Arith.{Arith}
 use Rattle.isa.specs.declared.Arith.the-variants as arith
 use Rattle.isa.specs.declared.Basic.the-variants.{Addv}
 use Rattle.isa.specs.declared.Dot.the-variants.{DotpS}
+use Rattle.isa.specs.declared.Greg.{Greg}
 use Rattle.isa.specs.declared.Imm5.the-variants as imm5
 use Rattle.isa.specs.declared.Instr.{Instr}
 use Rattle.isa.specs.declared.Instr.the-variants as instr
 use Rattle.isa.specs.declared.Product.the-variants.{DivS, ModS}
 use Rattle.isa.specs.declared.Read.the-variants as read
+use Rattle.isa.specs.declared.Scaled.the-variants.{Lsa}
 use Rattle.isa.specs.declared.Subtraction.the-variants.{SubsuuS, AsubS}
 use Rattle.isa.specs.declared.Three.the-variants as three
 use Rattle.isa.specs.declared.Vreg.{Vreg}
 use Rattle.isa.specs.declared.Width.the-variants.{B, W}
 use Rattle.isa.specs.declared.Written.the-variants.{Word}
 use Rattle.isa.specs.declared.Zero.the-variants.{Bnz}
-use Rattle.arith.specs.Arith.{arithOf}
-use Rattle.permute.specs.Permute.{chosenByControl}
-use Rattle.plan.specs.Numbers.{target, lsa}
+use Rattle.forms.specs.Forms.{threeOf}
+use Rattle.plan.specs.declared.Plan.the-variants as plan
+use Rattle.plan.specs.Plan.{planOf}
 use Rattle.reading.specs.Reading.{readOf}
-use Rattle.vectors.specs.Register.{element}
+use Rattle.state.specs.declared.control.Mark.the-variants.{Clear, Taken}
+use Rattle.state.specs.Machine.{Env, Machine, machine}
 use Rattle.writing.specs.Writing.{writeOf}
 
 pub record Sum : Type 1 where
@@ -41,6 +46,9 @@ Agree (s ∷ ss) = (s .computed ≡ s .expected) × Agree ss
 abbrev $w : ℕ → Vreg
 $w n = record { 0 = n }
 
+abbrev $ : ℕ → Greg
+$ n = record { 0 = n }
+
 -- ADDV.W $w5,$w1,$w2
 abbrev addv : Instr
 addv = instr.Three (three.Arith (arith.Basic Addv)) W ($w 5) ($w 1) ($w 2)
@@ -53,35 +61,57 @@ addvi = instr.Imm5 (imm5.Basic Addv) W ($w 7) ($w 1) 17
 abbrev bnz : Instr
 bnz = instr.Branch Bnz B ($w 3) 0xFFFE
 
--- an operation on bytes, and on halfwords; the old destination is 0
+-- LSA $1,$2,$3,1: the field is the shift less one
+abbrev lsa : Instr
+lsa = instr.Scaled Lsa ($ 1) ($ 2) ($ 3) 0
+
+-- a machine at address a, with its switch on and its slot mark clear
+abbrev at : ℕ → List ℕ → List ℕ → List ℕ → Machine
+at a v g w = machine v g w (record { pc = a; mark = Clear; csr = 0; on = true })
+
+-- vector registers of which no byte is zero; general registers with 40000000 hex in $2 and 0 in the others
+abbrev noZero : List ℕ
+noZero = replicate 512 1
+
+abbrev second : List ℕ
+second = replicate 16 0 ++ 0 ∷ 0 ∷ 0 ∷ 0x40 ∷ replicate 236 0
+
+-- a register with x in each of its bytes, and in each of its halfwords
+abbrev bytes : ℕ → ℕ
+bytes x = x * 0x01010101010101010101010101010101
+
+abbrev halves : ℕ → ℕ
+halves x = x * 0x00010001000100010001000100010001
+
+-- a 3R operation on registers of bytes, and of halfwords; the old destination is 0
 abbrev byte : Arith → ℕ → ℕ → ℕ
-byte o s t = arithOf o 8 0 s t
+byte o s t = threeOf (three.Arith o) 8 0 (bytes s) (bytes t)
 
 abbrev half : Arith → ℕ → ℕ → ℕ
-half o s t = arithOf o 16 0 s t
+half o s t = threeOf (three.Arith o) 16 0 (halves s) (halves t)
 
--- a is any address, ws and wt are any registers
-abbrev pub sums : ℕ → ℕ → ℕ → List Sum
-sums a ws wt =
+-- e is any set-up, v, g and w are any registers and work window, a is any address, ws and wt are any registers
+abbrev pub sums : Env → List ℕ → List ℕ → List ℕ → ℕ → ℕ → ℕ → List Sum
+sums e v g w a ws wt =
     sum (writeOf addv) (Word 0x7842094E)
     ∷ sum (readOf 0x7842094E) (read.Instr addv)
     ∷ sum (writeOf addvi) (Word 0x785109C6)
     ∷ sum (readOf 0x785109C6) (read.Instr addvi)
     ∷ sum (writeOf bnz) (Word 0x4783FFFE)
     ∷ sum (readOf 0x4783FFFE) (read.Instr bnz)
-    ∷ sum (target a 0xFFFE) ((a + (2 ^ 64 - 4)) % 2 ^ 64)
-    ∷ sum (byte (arith.Addition AddA) 0x80 0x80) 0x00
-    ∷ sum (byte (arith.Addition AddsA) 0x80 0x80) 0x7F
-    ∷ sum (byte (arith.Subtraction AsubS) 0x80 0x7F) 0xFF
-    ∷ sum (byte (arith.Subtraction SubsuuS) 0x00 0xFF) 0x80
-    ∷ sum (byte (arith.Addition AveS) 0xFF 0x00) 0xFF
-    ∷ sum (byte (arith.Addition AverS) 0xFF 0x00) 0x00
-    ∷ sum (byte (arith.Product DivS) 0xF9 0x02) 0xFD
-    ∷ sum (byte (arith.Product ModS) 0xF9 0x02) 0xFF
-    ∷ sum (byte (arith.Product DivS) 0x80 0xFF) 0x80
-    ∷ sum (half (arith.Dot DotpS) 0x8080 0x8080) 0x8000
-    ∷ sum (half (arith.Across HsubS) 0x0100 0x0002) 0xFFFF
-    ∷ sum (chosenByControl 8 0x40 ws wt 0) 0
-    ∷ sum (chosenByControl 8 0x1F ws wt 0) (element 8 ws 15)
-    ∷ sum (lsa 0x40000000 0 0) 0xFFFFFFFF80000000
+    ∷ sum (planOf e (at a noZero g w) bnz) (plan.Branch (Taken ((a + (2 ^ 64 - 4)) % 2 ^ 64)))
+    ∷ sum (byte (arith.Addition AddA) 0x80 0x80) (bytes 0x00)
+    ∷ sum (byte (arith.Addition AddsA) 0x80 0x80) (bytes 0x7F)
+    ∷ sum (byte (arith.Subtraction AsubS) 0x80 0x7F) (bytes 0xFF)
+    ∷ sum (byte (arith.Subtraction SubsuuS) 0x00 0xFF) (bytes 0x80)
+    ∷ sum (byte (arith.Addition AveS) 0xFF 0x00) (bytes 0xFF)
+    ∷ sum (byte (arith.Addition AverS) 0xFF 0x00) (bytes 0x00)
+    ∷ sum (byte (arith.Product DivS) 0xF9 0x02) (bytes 0xFD)
+    ∷ sum (byte (arith.Product ModS) 0xF9 0x02) (bytes 0xFF)
+    ∷ sum (byte (arith.Product DivS) 0x80 0xFF) (bytes 0x80)
+    ∷ sum (half (arith.Dot DotpS) 0x8080 0x8080) (halves 0x8000)
+    ∷ sum (half (arith.Across HsubS) 0x0100 0x0002) (halves 0xFFFF)
+    ∷ sum (threeOf three.Vshf 8 (bytes 0x40) ws wt) 0
+    ∷ sum (threeOf three.Vshf 8 (bytes 0x1F) ws wt) (bytes (ws / 2 ^ 120 % 2 ^ 8))
+    ∷ sum (planOf e (at a v second w) lsa) (plan.General ($ 1) 0xFFFFFFFF80000000)
     ∷ []
