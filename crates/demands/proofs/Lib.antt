@@ -1,8 +1,14 @@
+pub mod Addresses
+pub mod Answers
+pub mod CsrBits
 pub mod Demand1
 pub mod Demand2
 pub mod Demand3
 pub mod GoesOn
 pub mod Kept
+pub mod Limits
+pub mod Little
 pub mod OneAnswer
 pub mod ReadLow
 pub mod Reasons
+pub mod Reflects

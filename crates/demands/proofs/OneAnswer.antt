@@ -1,7 +1,9 @@
 -- Two answers that meet a promise are one: both are what the definition says.
 -- Assumes nothing.
 use mathlib.Core.Path.{_≡_, sym, _∙_}
-use Rattle.demands.specs.OneAnswer.{OneAdvance, OneStep, OneRun, OneValue, OneElement, OneRegister, OneSetup}
+use Rattle.state.proofs.Said.{fetched-is, setup-is}
+use Rattle.machine.proofs.Said.{answer-is, reason-is}
+use Rattle.demands.specs.OneAnswer.{OneAdvance, OneStep, OneRun, OneValue, OneElement, OneRegister, OneSetup, OneFetched}
 
 pub one-advance : OneAdvance
 one-advance s r r′ v v′ g g′ w w′ i j =
@@ -11,13 +13,13 @@ one-advance s r r′ v v′ g g′ w w′ i j =
 
 pub one-step : OneStep
 one-step s r r′ v v′ g g′ w w′ i j =
-    let a = i .answer ∙ sym (j .answer) in
+    let a = answer-is i ∙ sym (answer-is j) in
     let c = i .control ∙ sym (j .control) in
     (λ k. record { answer = a k; control = c k }, i .vec ∙ sym (j .vec), i .gen ∙ sym (j .gen), i .work ∙ sym (j .work))
 
 pub one-run : OneRun
 one-run s r r′ v v′ g g′ w w′ i j =
-    let a = i .reason ∙ sym (j .reason) in
+    let a = reason-is i ∙ sym (reason-is j) in
     let n = i .count ∙ sym (j .count) in
     let c = i .control ∙ sym (j .control) in
     (λ k. record { reason = a k; count = n k; control = c k }, i .vec ∙ sym (j .vec), i .gen ∙ sym (j .gen), i .work ∙ sym (j .work))
@@ -32,4 +34,7 @@ pub one-register : OneRegister
 one-register x r r′ e f = e .is ∙ sym (f .is)
 
 pub one-setup : OneSetup
-one-setup s r r′ e f = e .answer ∙ sym (f .answer)
+one-setup s r r′ e f = setup-is e ∙ sym (setup-is f)
+
+pub one-fetched : OneFetched
+one-fetched p base pc r r′ e f = fetched-is e ∙ sym (fetched-is f)

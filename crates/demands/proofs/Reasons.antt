@@ -1,28 +1,23 @@
--- The first reason: by the word at the counter, what it reads as, and what the instruction may stop for. A run's is that of its last step.
--- Assumes nothing.
+-- The first reason: by the word at the counter, what it reads as, and what the instruction may stop for. Assumes nothing.
 use mathlib.Core.Path.{_≡_, refl, sym, ap, _∙_}
-use mathlib.Core.Bool.{Bool, true, false, cond, not, _&&_, _||_}
-use mathlib.Core.List.{List}
-use Prim.Native.Nat.{ℕ, zero, suc, _+_, _-_, _%_, _^_, _≤_, _<_}
-use native.Mathlib.Decide.{decLe}
-use native.Mathlib.Nat.{mod-eq-of-lt}
+use mathlib.Core.Bool.{Bool, true, false, cond, _&&_}
+use mathlib.Core.List.{List, [], _∷_}
+use Prim.Native.Nat.{ℕ, _+_, _-_, _*_, _/_, _%_, _^_, _≤_, _<_}
 use native.Mathlib.Omega.{arith}
-use borrow.Author.Tests.{le-leb, lt-leb, lt-ltb, leb-true, ltb-true, eq-eqb, ne-eqb}
-use lib.Dec.{eqb, leb, ltb}
+use lib.Dec.{eqb, leb}
 use lib.ListN.{length}
+use Rattle.isa.specs.declared.Creg.{Creg}
+use Rattle.isa.specs.declared.Greg.{Greg}
 use Rattle.isa.specs.declared.Instr.{Instr}
 use Rattle.isa.specs.declared.Instr.the-variants as instr
 use Rattle.isa.specs.declared.Memory.{Memory}
 use Rattle.isa.specs.declared.Memory.the-variants.{Ld, St}
 use Rattle.isa.specs.declared.Read.{Read}
 use Rattle.isa.specs.declared.Read.the-variants as read
-use Rattle.isa.specs.declared.Stop.{Stop}
-use Rattle.isa.specs.declared.Stop.the-variants as stop
 use Rattle.isa.specs.declared.Stop.the-variants.{Trap}
 use Rattle.isa.specs.declared.Unread.the-variants.{Unassigned, LeftOut, Other}
 use Rattle.isa.specs.declared.Vreg.{Vreg}
 use Rattle.isa.specs.declared.Width.{Width}
-use Rattle.isa.specs.Numbers.{stopNumber}
 use Rattle.memory.specs.Bytes.{part, number}
 use Rattle.memory.specs.File.{registerAt}
 use Rattle.element.proofs.Views.{wrap-below}
@@ -31,218 +26,290 @@ use Rattle.plan.specs.declared.Plan.the-variants as plan
 use Rattle.plan.specs.declared.planned.Kind.{Kind}
 use Rattle.plan.specs.declared.planned.Kind.the-variants.{Branching, Switched, Free}
 use Rattle.plan.specs.Numbers.{address}
-use Rattle.plan.specs.Plan.{planOf, executed, accessed, loaded, stored, generalAt, kindOf, early, unless}
+use Rattle.plan.specs.Plan.{planOf, executed, loaded, stored, generalAt, kindOf, early, switchedEarly, unless}
 use Rattle.reading.specs.Reading.{readOf}
 use Rattle.state.specs.declared.control.Mark.{Mark}
 use Rattle.state.specs.declared.control.Mark.the-variants.{Clear, NotTaken, Taken}
 use Rattle.state.specs.declared.fetch.Fetched.the-variants.{Word, NoWord}
-use Rattle.state.specs.declared.setup.Setup.the-variants.{Accepted}
 use Rattle.state.specs.declared.windows.Found.the-variants.{At, Nowhere}
 use Rattle.state.specs.Csr.{masked, arms}
 use Rattle.state.specs.Fetch.{fetched}
 use Rattle.state.specs.Machine.{Env, Machine}
-use Rattle.state.specs.Setup.{refusal}
 use Rattle.state.specs.Windows.{placed, orElse}
 use Rattle.state.proofs.SetupLaws.{Sized, accepted}
-use Rattle.state.proofs.TestLaws.{and-left, and-right}
-use Rattle.machine.specs.declared.run.Reason.{Reason}
 use Rattle.machine.specs.Numbers.{outcomeNumber}
 use Rattle.machine.specs.Step.{stepOf, outcomeOf, attempted, decided}
-use Rattle.demands.specs.Demand1.{Why, spent, stopped}
-use Rattle.demands.specs.Reasons.{FirstReason, RunReason, HasReason, first, stops, hasWord, marked, isBranch, heedsSwitch, inside, every, holdsAll, inTable, inWork, riskOf, none, csr, nowhere, readOnly, trapping, stopsReading}
-use Rattle.demands.proofs.Demand1.{accepted-run}
-use Rattle.demands.proofs.Kept.{steps-accepted}
+use Rattle.demands.specs.Reasons.{IsBranch, format, whole, IgnoresSwitch, scaled, general, elementBytes, addressFrom, Accesses, at, SetsCsr, to, InTable, InWork, Arms, StandsAt, ReadsAs, Does, readStops, stops, FirstReason}
+use Rattle.demands.specs.Tables.{Row, row, First, none, given, passed, OneFirst, Not, Some, little}
+use Rattle.demands.proofs.Addresses.{address-from, all-inside}
+use Rattle.demands.proofs.CsrBits.{arms-reflects}
+use Rattle.demands.proofs.Little.{little-number}
+use Rattle.demands.proofs.Reflects.{Reflects, clash, likewise, eq-reflects, le-reflects, and-reflects}
 
--- every number below k
-every-true : (k : ℕ) (f : ℕ → Bool) → ((j : ℕ) → j < k → f j ≡ true) → every k f ≡ true
-unfolding every
-every-true zero f h = refl
-every-true (suc k) f h = rw (h k (omega arith)) (every-true k f (λ j l. h j (omega arith)))
+-- ---- rows
 
-every-at : (k : ℕ) (f : ℕ → Bool) → every k f ≡ true → (j : ℕ) → j < k → f j ≡ true
-unfolding every
-every-at zero f h j l = absurd (omega arith)
-every-at (suc k) f h j l = go (decLe k j) (and-left (f k) (every k f) h) (every-at k f (and-right (f k) (every k f) h) j)
-  where
-    go : Dec (k ≤ j) → f k ≡ true → (j < k → f j ≡ true) → f j ≡ true
-    go (yes g) a b = let e : j ≡ k = omega arith in rw e a
-    go (no g) a b = b (omega arith)
+pub one-first : OneFirst
+one-first rows n k none none = refl
+one-first rows n k (given a) (given b) = refl
+one-first rows n k (given a) (passed q g) = absurd (q a)
+one-first rows n k (passed p f) (given b) = absurd (p b)
+one-first rows n k (passed p f) (passed q g) = one-first _ n k f g
 
--- in a window that keeps its limit, all sixteen addresses are inside where the first and the last are
-module _ (base len a : ℕ) (small : len ≤ 1048576) (ends : base + len ≤ 2 ^ 64) (below : a < 2 ^ 64) where
-  abbrev held : ℕ → Bool
-  held k = inside base len ((a + k) % 2 ^ 64)
+-- a row whose fact holds together with another's
+swapped : {k n : ℕ} {P Q : Type 0} {rows rows′ : List Row} → (P → Q) → (Q → P) → (First rows n → First rows′ n)
+    → First (row k P ∷ rows) n → First (row k Q ∷ rows′) n
+swapped f g h (given p) = given (f p)
+swapped f g h (passed q r) = passed (λ x. q (g x)) (h r)
 
-  held-from : (k : ℕ) → held k ≡ true → base ≤ (a + k) % 2 ^ 64
-  held-from k h = leb-true _ _ (and-left (leb base ((a + k) % 2 ^ 64)) (ltb ((a + k) % 2 ^ 64) (base + len)) h)
+-- two numbers that are not the same
+differ : {A : Type 0} → _≡_ {A = ℕ} 0 1 → A
+differ z = absurd (omega arith)
 
-  held-to : (k : ℕ) → held k ≡ true → (a + k) % 2 ^ 64 < base + len
-  held-to k h = ltb-true _ _ (and-right (leb base ((a + k) % 2 ^ 64)) (ltb ((a + k) % 2 ^ 64) (base + len)) h)
+-- ---- 15 and 16
 
-  all-held : base ≤ a → a + 16 ≤ base + len → every 16 held ≡ true
-  all-held f t =
-      every-true 16 held
-      (λ k l.
-      let e : (a + k) % 2 ^ 64 ≡ a + k = mod-eq-of-lt (omega arith) in
-      rw e (rw (le-leb base (a + k) (omega arith), lt-ltb (a + k) (base + len) (omega arith))))
+data Kinds (i : Instr) : Kind → Type 0 where
+  branching : IsBranch i → Not (IgnoresSwitch i) → Kinds i Branching
+  switched : Not (IsBranch i) → Not (IgnoresSwitch i) → Kinds i Switched
+  free : Not (IsBranch i) → IgnoresSwitch i → Kinds i Free
 
-  -- the first address is below the window, or one of them is past it
-  not-held : (base ≤ a → a + 16 ≤ base + len → ⊥) → every 16 held ≡ true → ⊥
-  not-held never all =
-      let at : (k : ℕ) → k < 16 → held k ≡ true = every-at 16 held all in
-      let from = held-from 0 (at 0 (omega arith)) in
-      go at (decLe (2 ^ 64) (a + 15)) (omega arith)
-    where
-      go : ((k : ℕ) → k < 16 → held k ≡ true) → Dec (2 ^ 64 ≤ a + 15) → base ≤ a → ⊥
-      go at (no h) f = let to = held-to 15 (at 15 (omega arith)) in never f (omega arith)
-      go at (yes h) f =
-          let wraps = held-from (2 ^ 64 - a) (at (2 ^ 64 - a) (omega arith)) in
-          let to = held-to 0 (at 0 (omega arith)) in
-          omega arith
+kinds : (i : Instr) → Kinds i (kindOf i)
+kinds (instr.Three o df wd ws wt) = switched (λ h. elim h [ ]) (λ h. elim h [ ])
+kinds (instr.Indexed o df wd ws rt) = switched (λ h. elim h [ ]) (λ h. elim h [ ])
+kinds (instr.Imm5 o df wd ws imm) = switched (λ h. elim h [ ]) (λ h. elim h [ ])
+kinds (instr.Ldi df wd imm) = switched (λ h. elim h [ ]) (λ h. elim h [ ])
+kinds (instr.Bit o df wd ws k) = switched (λ h. elim h [ ]) (λ h. elim h [ ])
+kinds (instr.Imm8 o wd ws imm) = switched (λ h. elim h [ ]) (λ h. elim h [ ])
+kinds (instr.Shf df wd ws imm) = switched (λ h. elim h [ ]) (λ h. elim h [ ])
+kinds (instr.Element o df wd ws n) = switched (λ h. elim h [ ]) (λ h. elim h [ ])
+kinds (instr.Copy o df rd ws n) = switched (λ h. elim h [ ]) (λ h. elim h [ ])
+kinds (instr.Insert df wd n rs) = switched (λ h. elim h [ ]) (λ h. elim h [ ])
+kinds (instr.Move wd ws) = switched (λ h. elim h [ ]) (λ h. elim h [ ])
+kinds (instr.Cfcmsa rd cs) = switched (λ h. elim h [ ]) (λ h. elim h [ ])
+kinds (instr.Ctcmsa cd rs) = switched (λ h. elim h [ ]) (λ h. elim h [ ])
+kinds (instr.Vec o wd ws wt) = switched (λ h. elim h [ ]) (λ h. elim h [ ])
+kinds (instr.Fill df wd rs) = switched (λ h. elim h [ ]) (λ h. elim h [ ])
+kinds (instr.Count o df wd ws) = switched (λ h. elim h [ ]) (λ h. elim h [ ])
+kinds (instr.Memory o df wd offset rs) = switched (λ h. elim h [ ]) (λ h. elim h [ ])
+kinds (instr.Branch o df wt offset) = branching format (λ h. elim h [ ])
+kinds (instr.BranchV o wt offset) = branching whole (λ h. elim h [ ])
+kinds (instr.Scaled o rd rs rt sa) = free (λ h. elim h [ ]) scaled
 
-  pub all-inside : holdsAll base len a ≡ (leb base a && leb (a + 16) (base + len))
-  all-inside = go (decLe base a) (decLe (a + 16) (base + len))
-    where
-      fails : (base ≤ a → a + 16 ≤ base + len → ⊥) → every 16 held ≡ false
-      fails never = by (every 16 held) refl
-        where
-          by : (b : Bool) → every 16 held ≡ b → b ≡ false
-          by true h = absurd (not-held never h)
-          by false h = refl
+-- both before what the instruction itself may stop for
+module _ (i : Instr) (q : Plan) (rows : List Row) (rest : First rows (outcomeNumber (outcomeOf q))) where
+  abbrev InSlot : Mark → Type 0
+  InSlot mark = IsBranch i × Not (mark ≡ Clear)
 
-      go : Dec (base ≤ a) → Dec (a + 16 ≤ base + len) → holdsAll base len a ≡ (leb base a && leb (a + 16) (base + len))
-      go (yes f) (yes t) = all-held f t ∙ sym (rw (le-leb base a f, le-leb (a + 16) (base + len) t))
-      go (yes f) (no t) = fails (λ f t′. t t′) ∙ sym (rw (le-leb base a f, lt-leb (a + 16) (base + len) (omega arith)))
-      go (no f) d = fails (λ f′ t. f f′) ∙ sym (rw (lt-leb base a (omega arith)))
+  abbrev Off : Bool → Type 0
+  Off on = Not (IgnoresSwitch i) × (on ≡ false)
 
--- 15 and 16 before what the instruction itself may stop for
-early-first : (k : Kind) (mark : Mark) (on : Bool) (p : Plan) (n : ℕ) → outcomeNumber (outcomeOf p) ≡ n
-    → outcomeNumber (outcomeOf (unless (early k mark on) p)) ≡ cond (isBranch k && marked mark) 15 (cond (heedsSwitch k && not on) 16 n)
-early-first Branching Clear true p n h = h
-early-first Branching Clear false p n h = refl
-early-first Branching NotTaken on p n h = refl
-early-first Branching (Taken t) on p n h = refl
-early-first Switched mark true p n h = h
-early-first Switched mark false p n h = refl
-early-first Free mark on p n h = h
+  not-on : Not (Off true)
+  not-on h = clash refl (h .1)
+
+  switch-first : Not (IgnoresSwitch i) → (on : Bool) → First (row 16 (Off on) ∷ rows) (outcomeNumber (outcomeOf (unless (switchedEarly on) q)))
+  switch-first s true = passed not-on rest
+  switch-first s false = let h : Off false = (s, refl) in given h
+
+  early-first : (k : Kind) → Kinds i k → (mark : Mark) (on : Bool)
+      → First (row 15 (InSlot mark) ∷ row 16 (Off on) ∷ rows) (outcomeNumber (outcomeOf (unless (early k mark on) q)))
+  early-first Branching (branching b s) Clear on = passed (λ (h : InSlot Clear). h .1 refl) (switch-first s on)
+  early-first Branching (branching b s) NotTaken on = let h : InSlot NotTaken = (b, λ e. differ (cc)) in given h
+  early-first Branching (branching b s) (Taken t) on = let h : InSlot (Taken t) = (b, λ e. differ (cc)) in given h
+  early-first Switched (switched b s) mark on = passed (λ (h : InSlot mark). b (h .0)) (switch-first s on)
+  early-first Free (free b s) mark on = passed (λ (h : InSlot mark). b (h .0)) (passed (λ (h : Off on). h .0 s) rest)
+
+-- ---- 17 to 19
 
 module _ (e : Env) (m : Machine) (sized : Sized e m) where
-  -- 17 to 19
-  abbrev risky : Instr → ℕ
-  risky i = cond (nowhere e m (riskOf m i)) 17 (cond (readOnly e (riskOf m i)) 18 (cond (trapping (riskOf m i)) 19 0))
+  general-at : (r : Greg) → general m r ≡ generalAt (m .gen) r
+  unfolding generalAt
+  general-at r = little-number (m .gen) (8 * r .0) 8
 
-  control-first : (one? : Bool) (x : ℕ) (trap? : Bool) → arms x ≡ trap?
-      → outcomeNumber (outcomeOf (cond one? (cond trap? (plan.Stop Trap) (plan.Csr x)) plan.Nothing))
-      ≡ cond (nowhere e m (cond one? (csr x) none)) 17 (cond (readOnly e (cond one? (csr x) none)) 18 (cond (trapping (cond one? (csr x) none)) 19 0))
-  control-first true x true h = rw h
-  control-first true x false h = rw h
-  control-first false x trap? h = refl
+  -- the facts of the rows
+  abbrev Nowhere? : Memory → ℕ → Type 0
+  Nowhere? o a = Not (InTable e a) × Not (InWork e m a)
 
-  -- the tests of the two windows
-  in-table : (a : ℕ) → a < 2 ^ 64 → inTable e a ≡ (leb (e .bases .table) a && leb (a + 16) (e .bases .table + length (e .table)))
+  abbrev ReadOnly? : Memory → ℕ → Type 0
+  ReadOnly? o a = (o ≡ St) × InTable e a
+
+  abbrev risks : Instr → List Row
+  risks i = row 17 (Accesses m Nowhere? i) ∷ row 18 (Accesses m ReadOnly? i) ∷ row 19 (SetsCsr m Arms i) ∷ []
+
+  -- the two windows, as the machine tests them
+  abbrev holds : ℕ → ℕ → ℕ → Bool
+  holds base len a = leb base a && leb (a + 16) (base + len)
+
+  in-table : (a : ℕ) → a < 2 ^ 64 → Reflects (holds (e .bases .table) (length (e .table)) a) (InTable e a)
   in-table a h = all-inside (e .bases .table) (length (e .table)) a (sized .table-small) (sized .table) h
 
-  in-work : (a : ℕ) → a < 2 ^ 64 → inWork e m a ≡ (leb (e .bases .work) a && leb (a + 16) (e .bases .work + length (m .work)))
+  in-work : (a : ℕ) → a < 2 ^ 64 → Reflects (holds (e .bases .work) (length (m .work)) a) (InWork e m a)
   in-work a h = all-inside (e .bases .work) (length (m .work)) a (sized .work-small) (sized .work) h
 
-  abbrev table? : ℕ → Bool
-  table? a = leb (e .bases .table) a && leb (a + 16) (e .bases .table + length (e .table))
+  module _ (df : Width) (wd : Vreg) (offset : ℕ) (rs : Greg) where
+    abbrev a : ℕ
+    a = address df offset (generalAt (m .gen) rs)
 
-  abbrev work? : ℕ → Bool
-  work? a = leb (e .bases .work) a && leb (a + 16) (e .bases .work + length (m .work))
+    -- the address, by either definition
+    same : addressFrom (general m rs) offset (elementBytes df) ≡ a
+    same = ap (λ x. addressFrom x offset (elementBytes df)) (general-at rs) ∙ sym (address-from df offset (generalAt (m .gen) rs))
 
-  load-first : (wd : Vreg) (a : ℕ) → a < 2 ^ 64
-      → outcomeNumber (outcomeOf (accessed Ld (e .bases) (e .table) (m .vec) (m .work) wd a)) ≡ cond (not (inTable e a || inWork e m a)) 17 0
+    below : a < 2 ^ 64
+    unfolding address
+    below = wrap-below 64 _
+
+    module _ (o : Memory) (f : Memory → ℕ → Type 0) where
+      access : f o a → Accesses m f (instr.Memory o df wd offset rs)
+      access h = at {o = o} {df = df} {offset = offset} {rs = rs} (rw same h)
+
+      accessed : Accesses m f (instr.Memory o df wd offset rs) → f o a
+      accessed (at h) = rw same at h
+
+    no-csr : (o : Memory) → Not (SetsCsr m Arms (instr.Memory o df wd offset rs))
+    no-csr o h = elim h [ ]
+
+    not-store : Not (Ld ≡ St)
+    not-store h = differ (cc)
+
+    load-first : (t w : Bool) → Reflects t (InTable e a) → Reflects w (InWork e m a)
+        → First (risks (instr.Memory Ld df wd offset rs))
+        (outcomeNumber (outcomeOf (loaded (orElse (cond t (At (a - e .bases .table)) Nowhere) (cond w (At (a - e .bases .work)) Nowhere)) wd (e .table) (m .work))))
+    load-first true w x y =
+        passed (λ h. accessed Ld Nowhere? h .0 (x .yes refl)) (passed (λ h. not-store (accessed Ld ReadOnly? h .0)) (passed (no-csr Ld) none))
+    load-first false true x y =
+        passed (λ h. accessed Ld Nowhere? h .1 (y .yes refl)) (passed (λ h. not-store (accessed Ld ReadOnly? h .0)) (passed (no-csr Ld) none))
+    load-first false false x y = given (access Ld Nowhere? (x .no refl, y .no refl))
+
+    store-first : (t w : Bool) (v : ℕ) → Reflects t (InTable e a) → Reflects w (InWork e m a)
+        → First (risks (instr.Memory St df wd offset rs))
+        (outcomeNumber (outcomeOf (stored (orElse (cond t (At (a - e .bases .table)) Nowhere) (cond w (At (a - e .bases .work)) Nowhere)) a v)))
+    store-first true w v x y = passed (λ h. accessed St Nowhere? h .0 (x .yes refl)) (given (access St ReadOnly? (refl, x .yes refl)))
+    store-first false true v x y =
+        passed (λ h. accessed St Nowhere? h .1 (y .yes refl)) (passed (λ h. x .no refl (accessed St ReadOnly? h .1)) (passed (no-csr St) none))
+    store-first false false v x y = given (access St Nowhere? (x .no refl, y .no refl))
+
+  -- CTCMSA
+  module _ (cd : Creg) (rs : Greg) where
+    abbrev x : ℕ
+    x = generalAt (m .gen) rs
+
+    sets : (cd .0 ≡ 1) × Arms x → SetsCsr m Arms (instr.Ctcmsa cd rs)
+    sets h = to {rs = rs} (h .0) (rw (general-at rs) (h .1))
+
+    set : SetsCsr m Arms (instr.Ctcmsa cd rs) → (cd .0 ≡ 1) × Arms x
+    set (to p q) = (p, rw (general-at rs) at q)
+
+    no-access : (f : Memory → ℕ → Type 0) → Not (Accesses m f (instr.Ctcmsa cd rs))
+    no-access f h = elim h [ ]
+
+    control-first : (one trap : Bool) → Reflects one (cd .0 ≡ 1) → Reflects trap (Arms x)
+        → First (risks (instr.Ctcmsa cd rs)) (outcomeNumber (outcomeOf (cond one (cond trap (plan.Stop Trap) (plan.Csr (masked x))) plan.Nothing)))
+    control-first true true a b = passed (no-access Nowhere?) (passed (no-access ReadOnly?) (given (sets (a .yes refl, b .yes refl))))
+    control-first true false a b = passed (no-access Nowhere?) (passed (no-access ReadOnly?) (passed (λ h. b .no refl (set h .1)) none))
+    control-first false trap a b = passed (no-access Nowhere?) (passed (no-access ReadOnly?) (passed (λ h. a .no refl (set h .0)) none))
+
+  -- an instruction that none of them concerns
+  quiet : {i : Instr} → Not (Accesses m Nowhere? i) → Not (Accesses m ReadOnly? i) → Not (SetsCsr m Arms i) → First (risks i) 0
+  quiet n r c = passed n (passed r (passed c none))
+
+  executed-first : (i : Instr) → First (risks i) (outcomeNumber (outcomeOf (executed e m i)))
   unfolding placed
-  load-first wd a h =
-      rw (in-table a h, in-work a h) (go (table? a) (work? a))
-    where
-      go : (t w : Bool) → outcomeNumber (outcomeOf (loaded (orElse (cond t (At (a - e .bases .table)) Nowhere) (cond w (At (a - e .bases .work)) Nowhere)) wd (e .table) (m .work)))
-          ≡ cond (not (t || w)) 17 0
-      go true w = refl
-      go false true = refl
-      go false false = refl
+  executed-first (instr.Three o df wd ws wt) = quiet (λ h. elim h [ ]) (λ h. elim h [ ]) (λ h. elim h [ ])
+  executed-first (instr.Indexed o df wd ws rt) = quiet (λ h. elim h [ ]) (λ h. elim h [ ]) (λ h. elim h [ ])
+  executed-first (instr.Imm5 o df wd ws imm) = quiet (λ h. elim h [ ]) (λ h. elim h [ ]) (λ h. elim h [ ])
+  executed-first (instr.Ldi df wd imm) = quiet (λ h. elim h [ ]) (λ h. elim h [ ]) (λ h. elim h [ ])
+  executed-first (instr.Bit o df wd ws k) = quiet (λ h. elim h [ ]) (λ h. elim h [ ]) (λ h. elim h [ ])
+  executed-first (instr.Imm8 o wd ws imm) = quiet (λ h. elim h [ ]) (λ h. elim h [ ]) (λ h. elim h [ ])
+  executed-first (instr.Shf df wd ws imm) = quiet (λ h. elim h [ ]) (λ h. elim h [ ]) (λ h. elim h [ ])
+  executed-first (instr.Element o df wd ws n) = quiet (λ h. elim h [ ]) (λ h. elim h [ ]) (λ h. elim h [ ])
+  executed-first (instr.Copy o df rd ws n) = quiet (λ h. elim h [ ]) (λ h. elim h [ ]) (λ h. elim h [ ])
+  executed-first (instr.Insert df wd n rs) = quiet (λ h. elim h [ ]) (λ h. elim h [ ]) (λ h. elim h [ ])
+  executed-first (instr.Move wd ws) = quiet (λ h. elim h [ ]) (λ h. elim h [ ]) (λ h. elim h [ ])
+  executed-first (instr.Cfcmsa rd cs) = quiet (λ h. elim h [ ]) (λ h. elim h [ ]) (λ h. elim h [ ])
+  executed-first (instr.Ctcmsa cd rs) =
+      control-first cd rs (eqb (cd .0) 1) (arms (masked (generalAt (m .gen) rs))) (eq-reflects (cd .0) 1) (arms-reflects (generalAt (m .gen) rs))
+  executed-first (instr.Vec o wd ws wt) = quiet (λ h. elim h [ ]) (λ h. elim h [ ]) (λ h. elim h [ ])
+  executed-first (instr.Fill df wd rs) = quiet (λ h. elim h [ ]) (λ h. elim h [ ]) (λ h. elim h [ ])
+  executed-first (instr.Count o df wd ws) = quiet (λ h. elim h [ ]) (λ h. elim h [ ]) (λ h. elim h [ ])
+  executed-first (instr.Memory Ld df wd offset rs) =
+      let at = a df wd offset rs in
+      load-first df wd offset rs (holds (e .bases .table) (length (e .table)) at) (holds (e .bases .work) (length (m .work)) at)
+      (in-table at (below df wd offset rs)) (in-work at (below df wd offset rs))
+  executed-first (instr.Memory St df wd offset rs) =
+      let at = a df wd offset rs in
+      store-first df wd offset rs (holds (e .bases .table) (length (e .table)) at) (holds (e .bases .work) (length (m .work)) at)
+      (registerAt (m .vec) wd) (in-table at (below df wd offset rs)) (in-work at (below df wd offset rs))
+  executed-first (instr.Branch o df wt offset) = quiet (λ h. elim h [ ]) (λ h. elim h [ ]) (λ h. elim h [ ])
+  executed-first (instr.BranchV o wt offset) = quiet (λ h. elim h [ ]) (λ h. elim h [ ]) (λ h. elim h [ ])
+  executed-first (instr.Scaled o rd rs rt sa) = quiet (λ h. elim h [ ]) (λ h. elim h [ ]) (λ h. elim h [ ])
 
-  store-first : (wd : Vreg) (a : ℕ) → a < 2 ^ 64
-      → outcomeNumber (outcomeOf (accessed St (e .bases) (e .table) (m .vec) (m .work) wd a)) ≡ cond (not (inTable e a || inWork e m a)) 17 (cond (inTable e a) 18 0)
-  unfolding placed
-  store-first wd a h =
-      rw (in-table a h, in-work a h) (go (table? a) (work? a))
-    where
-      go : (t w : Bool) → outcomeNumber (outcomeOf (stored (orElse (cond t (At (a - e .bases .table)) Nowhere) (cond w (At (a - e .bases .work)) Nowhere)) a (registerAt (m .vec) wd)))
-          ≡ cond (not (t || w)) 17 (cond t 18 0)
-      go true w = refl
-      go false true = refl
-      go false false = refl
+-- ---- the word at the counter
 
-  address-below : (df : Width) (offset x : ℕ) → address df offset x < 2 ^ 64
-  unfolding address
-  address-below df offset x = wrap-below 64 _
+module _ (p : List ℕ) (e : Env) (m : Machine) where
+  -- there is one
+  one-reading : {r r′ : Read} → ReadsAs p e m r → ReadsAs p e m r′ → r ≡ r′
+  one-reading s t =
+      let k : s .number ≡ t .number = omega (arith, s .holds .0 .1, t .holds .0 .1) in
+      sym (s .holds .1) ∙ ap (λ i. readOf (little p (4 * i) 4)) k ∙ t .holds .1
 
-  executed-first : (i : Instr) → outcomeNumber (outcomeOf (executed e m i)) ≡ risky i
-  executed-first (instr.Three o df wd ws wt) = refl
-  executed-first (instr.Indexed o df wd ws rt) = refl
-  executed-first (instr.Imm5 o df wd ws imm) = refl
-  executed-first (instr.Ldi df wd imm) = refl
-  executed-first (instr.Bit o df wd ws k) = refl
-  executed-first (instr.Imm8 o wd ws imm) = refl
-  executed-first (instr.Shf df wd ws imm) = refl
-  executed-first (instr.Element o df wd ws n) = refl
-  executed-first (instr.Copy o df rd ws n) = refl
-  executed-first (instr.Insert df wd n rs) = refl
-  executed-first (instr.Move wd ws) = refl
-  executed-first (instr.Cfcmsa rd cs) = refl
-  executed-first (instr.Ctcmsa cd rs) = control-first (eqb (cd .0) 1) (masked (generalAt (m .gen) rs)) (arms (masked (generalAt (m .gen) rs))) refl
-  executed-first (instr.Vec o wd ws wt) = refl
-  executed-first (instr.Fill df wd rs) = refl
-  executed-first (instr.Count o df wd ws) = refl
-  executed-first (instr.Memory Ld df wd offset rs) = load-first wd (address df offset (generalAt (m .gen) rs)) (address-below df offset (generalAt (m .gen) rs))
-  executed-first (instr.Memory St df wd offset rs) = store-first wd (address df offset (generalAt (m .gen) rs)) (address-below df offset (generalAt (m .gen) rs))
-  executed-first (instr.Branch o df wt offset) = refl
-  executed-first (instr.BranchV o wt offset) = refl
-  executed-first (instr.Scaled o rd rs rt sa) = refl
+  -- 15 to 19 of the instruction that it reads as
+  module _ (i : Instr) (here : ReadsAs p e m (read.Instr i)) where
+    does : {f : Instr → Type 0} → f i → Does p e m f
+    does h = record { instruction = i; reads = here; holds = h }
 
-  planned-first : (i : Instr) → outcomeNumber (outcomeOf (planOf e m i))
-      ≡ cond (isBranch (kindOf i) && marked (m .ctl .mark)) 15 (cond (heedsSwitch (kindOf i) && not (m .ctl .on)) 16 (risky i))
-  unfolding planOf
-  planned-first i = early-first (kindOf i) (m .ctl .mark) (m .ctl .on) (executed e m i) (risky i) (executed-first i)
+    done : {f : Instr → Type 0} → Does p e m f → f i
+    done d = let k : d .instruction ≡ i = cc (one-reading (d .reads) here) in rw k at (d .holds)
 
-  -- rows 12 to 19
-  decided-first : (r : Read) → outcomeNumber (decided r e m .outcome) ≡ first (stopsReading r e m)
-  decided-first (read.Not Unassigned) = refl
-  decided-first (read.Not LeftOut) = refl
-  decided-first (read.Not Other) = refl
-  decided-first (read.Instr i) = planned-first i
+  abbrev stands? : Bool
+  stands? =
+      leb (e .bases .program) (m .ctl .pc)
+      && eqb ((m .ctl .pc - e .bases .program) % 4) 0
+      && leb (m .ctl .pc - e .bases .program + 4) (length p)
+
+  stands : Reflects stands? (Some (StandsAt p e m))
+  stands =
+      likewise
+      (λ h. record { number = (m .ctl .pc - e .bases .program) / 4; holds = (omega (arith, h .0 .0, h .1), omega (arith, h .0 .0, h .0 .1)) })
+      (λ s. let i = s .holds .0 in let k = s .holds .1 in ((omega arith, omega arith), omega arith))
+      (and-reflects _ _
+      (and-reflects _ _ (le-reflects (e .bases .program) (m .ctl .pc)) (eq-reflects ((m .ctl .pc - e .bases .program) % 4) 0))
+      (le-reflects (m .ctl .pc - e .bases .program + 4) (length p)))
+
+  abbrev w : ℕ
+  w = number (part p (m .ctl .pc - e .bases .program) 4)
+
+  reads : Some (StandsAt p e m) → ReadsAs p e m (readOf w)
+  reads s =
+      let k : 4 * s .number ≡ m .ctl .pc - e .bases .program = omega (arith, s .holds .1) in
+      record { number = s .number; holds = (s .holds, ap readOf (little-number p (4 * s .number) 4 ∙ ap (λ at. number (part p at 4)) k)) }
+
+  module _ (sized : Sized e m) where
+    planned-first : (i : Instr)
+        → First (row 15 (IsBranch i × Not (m .ctl .mark ≡ Clear)) ∷ row 16 (Not (IgnoresSwitch i) × (m .ctl .on ≡ false)) ∷ risks e m sized i)
+        (outcomeNumber (outcomeOf (planOf e m i)))
+    unfolding planOf
+    planned-first i = early-first i (executed e m i) (risks e m sized i) (executed-first e m sized i) (kindOf i) (kinds i) (m .ctl .mark) (m .ctl .on)
+
+    -- it reads as nothing else
+    other : {r : Read} (s : Read) → ReadsAs p e m r → Not (r ≡ s) → Not (ReadsAs p e m s)
+    other s here n t = n (one-reading here t)
+
+    decided-first : (r : Read) → ReadsAs p e m r → First (readStops p e m) (outcomeNumber (decided r e m .outcome))
+    decided-first (read.Not Unassigned) here = given here
+    decided-first (read.Not LeftOut) here = passed (other (read.Not Unassigned) here (λ q. differ (cc))) (given here)
+    decided-first (read.Not Other) here =
+        passed (other (read.Not Unassigned) here (λ q. differ (cc))) (passed (other (read.Not LeftOut) here (λ q. differ (cc))) (given here))
+    decided-first (read.Instr i) here =
+        passed (other (read.Not Unassigned) here (λ q. differ (cc)))
+        (passed (other (read.Not LeftOut) here (λ q. differ (cc)))
+        (passed (other (read.Not Other) here (λ q. differ (cc)))
+        (swapped (does i here) (done i here)
+        (swapped (does i here) (done i here)
+        (swapped (does i here) (done i here) (swapped (does i here) (done i here) (swapped (does i here) (done i here) (λ f. f)))))
+        (planned-first i))))
+
+    counter-first : (b : Bool) → Reflects b (Some (StandsAt p e m)) → First (stops p e m) (outcomeNumber (attempted (cond b (Word w) NoWord) e m .outcome))
+    counter-first true x = passed (λ (n : Not (Some (StandsAt p e m))). n (x .yes refl)) (decided-first (readOf w) (reads (x .yes refl)))
+    counter-first false x = given (x .no refl)
 
 pub first-reason : FirstReason
 unfolding stepOf fetched
-first-reason p e m a = go (hasWord p e m)
-  where
-    go : (b : Bool) → outcomeNumber (attempted (cond b (Word (number (part p (m .ctl .pc - e .bases .program) 4))) NoWord) e m .outcome)
-        ≡ cond (not b) 11 (first (stopsReading (readOf (number (part p (m .ctl .pc - e .bases .program) 4))) e m))
-    go true = decided-first e m (accepted p e m a) (readOf (number (part p (m .ctl .pc - e .bases .program) 4)))
-    go false = refl
-
--- every stop has a number
-stop-some : (s : Stop) → stopNumber s ≡ 0 → ⊥
-stop-some stop.NoWord h = omega arith
-stop-some (stop.Unread Unassigned) h = omega arith
-stop-some (stop.Unread LeftOut) h = omega arith
-stop-some (stop.Unread Other) h = omega arith
-stop-some stop.BranchInSlot h = omega arith
-stop-some stop.SwitchedOff h = omega arith
-stop-some stop.NoWindow h = omega arith
-stop-some stop.ReadOnly h = omega arith
-stop-some stop.Trap h = omega arith
-
-why-reason : (p : List ℕ) (e : Env) (budget count : ℕ) (m : Machine) (r : Reason) → refusal p e m ≡ Accepted → Why p e budget count m r
-    → HasReason p e budget (record { reason = r; count = count; after = m })
-why-reason p e budget count m r a (spent h) = record { number = rw (eq-eqb count budget h); some = λ l. absurd (omega arith) }
-why-reason p e budget count m r a (stopped s l h) =
-    let is : stopNumber s ≡ first (stops p e m) = rw h at (first-reason p e m a) in
-    record { number = rw (ne-eqb count budget (omega arith)) is; some = λ l z. stop-some s (is ∙ z) }
-
-pub run-reason : RunReason
-run-reason p e budget m a =
-    let ends = accepted-run p e budget m a in
-    why-reason p e budget _ _ _ (steps-accepted p e _ m _ (ends .steps) a) (ends .why)
+first-reason p e m a = counter-first p e m (accepted p e m a) (stands? p e m) (stands p e m)

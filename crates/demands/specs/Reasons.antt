@@ -1,169 +1,144 @@
--- The stops of a step: document 01's table, a row a reason, in its order. A step gives the number of the first row that applies, and is finished
--- where none does. A run gives 20 where its budget is spent, and else the number of the first row that applies where it ended.
--- (That a stop changes nothing is `StopKeeps` of Demand1. The table of set-up refusals is the definition itself: `state`, Setup.)
+-- The stops of a step: document 01's table, a row a number, in its order, and the answers of step and run by both tables: the number of
+-- the first limit that is broken, else, in a run, 20 where the budget is spent, else that of the first stop that applies; 0 where none does.
+-- (That a stop changes nothing is `StopKeeps` of Demand1.)
 use mathlib.Core.Path.{_≡_}
-use mathlib.Core.Bool.{Bool, true, false, cond, not, _&&_, _||_}
-use mathlib.Core.List.{List, [], _∷_}
-use Prim.Native.Nat.{ℕ, zero, suc, _+_, _-_, _%_, _^_, _<_}
-use lib.Dec.{eqb, leb, ltb}
+use mathlib.Core.Bool.{false, cond}
+use mathlib.Core.Logic.{_⊎_}
+use mathlib.Core.List.{List, [], _∷_, _++_}
+use Prim.Native.Nat.{ℕ, _+_, _-_, _*_, _/_, _%_, _^_, _<_}
+use lib.Dec.{ltb}
 use lib.ListN.{length}
+use Rattle.isa.specs.declared.Creg.{Creg}
+use Rattle.isa.specs.declared.Greg.{Greg}
 use Rattle.isa.specs.declared.Instr.{Instr}
 use Rattle.isa.specs.declared.Instr.the-variants as instr
-use Rattle.isa.specs.declared.Memory.the-variants.{Ld, St}
+use Rattle.isa.specs.declared.Memory.{Memory}
+use Rattle.isa.specs.declared.Memory.the-variants.{St}
 use Rattle.isa.specs.declared.Read.{Read}
 use Rattle.isa.specs.declared.Read.the-variants as read
-use Rattle.isa.specs.Numbers.{readNumber}
-use Rattle.memory.specs.Bytes.{part, number}
+use Rattle.isa.specs.declared.Scaled.{Scaled}
+use Rattle.isa.specs.declared.Unread.the-variants.{Unassigned, LeftOut, Other}
+use Rattle.isa.specs.declared.Vreg.{Vreg}
+use Rattle.isa.specs.declared.Width.{Width}
+use Rattle.isa.specs.declared.Width.the-variants.{B, H, W, D}
+use Rattle.isa.specs.declared.Zero.{Zero}
 use Rattle.reading.specs.Reading.{readOf}
-use Rattle.plan.specs.declared.planned.Kind.{Kind}
-use Rattle.plan.specs.declared.planned.Kind.the-variants.{Branching, Switched, Free}
-use Rattle.plan.specs.Numbers.{address}
-use Rattle.plan.specs.Plan.{generalAt, kindOf}
-use Rattle.state.specs.declared.control.Mark.{Mark}
-use Rattle.state.specs.declared.control.Mark.the-variants.{Clear, NotTaken, Taken}
+use Rattle.state.specs.declared.control.Mark.the-variants.{Clear}
 use Rattle.state.specs.declared.setup.Setup.the-variants.{Accepted}
-use Rattle.state.specs.Csr.{masked, arms}
-use Rattle.state.specs.Machine.{Env, Machine}
+use Rattle.state.specs.Machine.{Env, Machine, machine}
 use Rattle.state.specs.Setup.{refusal}
-use Rattle.machine.specs.Numbers.{outcomeNumber, reasonNumber}
-use Rattle.machine.specs.Run.{Run, wholeRun}
-use Rattle.machine.specs.Step.{stepOf}
+use Rattle.machine.specs.declared.run.Ended.{Ended}
+use Rattle.machine.specs.declared.step.Answered.{Answered}
+use Rattle.machine.specs.Numbers.{outcomeNumber, answerNumber, reasonNumber}
+use Rattle.machine.specs.Run.{RunIs, wholeRun}
+use Rattle.machine.specs.Step.{WholeIs, stepOf, wholeStep}
+use Rattle.demands.specs.Limits.{limits}
+use Rattle.demands.specs.Tables.{Row, row, First, Not, Some, little, Bit, csrBits, Inside}
 
-pub record Row : Type 0 where
-  pub number : ℕ
-  pub applies : Bool
+-- ---- instructions
 
-abbrev row : ℕ → Bool → Row
-row n b = record { number = n; applies = b }
+-- a branch: BZ and BNZ with a format, BZ.V and BNZ.V
+pub data IsBranch : Instr → Type 0 where
+  format : {o : Zero} {df : Width} {wt : Vreg} {offset : ℕ} → IsBranch (instr.Branch o df wt offset)
+  whole : {o : Zero} {wt : Vreg} {offset : ℕ} → IsBranch (instr.BranchV o wt offset)
 
--- the number of the first row that applies, 0 where none does
-abbrev pub first : List Row → ℕ
-first [] = 0
-first (r ∷ rs) = cond (r .applies) (r .number) (first rs)
+-- LSA and DLSA ignore the switch, so all others do not
+pub data IgnoresSwitch : Instr → Type 0 where
+  scaled : {o : Scaled} {rd rs rt : Greg} {sa : ℕ} → IgnoresSwitch (instr.Scaled o rd rs rt sa)
 
--- a program word stands at the program counter, and it reads as this
-abbrev pub hasWord : List ℕ → Env → Machine → Bool
-hasWord p e m =
-    leb (e .bases .program) (m .ctl .pc)
-    && eqb ((m .ctl .pc - e .bases .program) % 4) 0
-    && leb (m .ctl .pc - e .bases .program + 4) (length p)
+-- general register r: eight bytes
+abbrev pub general : Machine → Greg → ℕ
+general m r = little (m .gen) (8 * r .0) 8
 
-abbrev pub reading : List ℕ → Env → Machine → Read
-reading p e m = readOf (number (part p (m .ctl .pc - e .bases .program) 4))
+abbrev pub elementBytes : Width → ℕ
+elementBytes B = 1
+elementBytes H = 2
+elementBytes W = 4
+elementBytes D = 8
 
-abbrev pub marked : Mark → Bool
-marked Clear = false
-marked NotTaken = true
-marked (Taken t) = true
+-- x plus a ten-bit field times n, modulo 2^64; the field is signed: from 512 on it stands for 1,024 less
+abbrev pub addressFrom : ℕ → ℕ → ℕ → ℕ
+addressFrom x field n = cond (ltb field 512) (x + field * n) (x + field * n + 2 ^ 64 - 1024 * n) % 2 ^ 64
 
-abbrev pub isBranch : Kind → Bool
-isBranch Branching = true
-isBranch Switched = false
-isBranch Free = false
+-- a load or a store of which f holds, with the address of its first byte
+pub data Accesses (m : Machine) (f : Memory → ℕ → Type 0) : Instr → Type 0 where
+  at : {o : Memory} {df : Width} {wd : Vreg} {offset : ℕ} {rs : Greg} → f o (addressFrom (general m rs) offset (elementBytes df))
+      → Accesses m f (instr.Memory o df wd offset rs)
 
-abbrev pub heedsSwitch : Kind → Bool
-heedsSwitch Branching = true
-heedsSwitch Switched = true
-heedsSwitch Free = false
+-- a CTCMSA to MSACSR, control register 1, of a value of which f holds
+pub data SetsCsr (m : Machine) (f : ℕ → Type 0) : Instr → Type 0 where
+  to : {cd : Creg} {rs : Greg} → cd .0 ≡ 1 → f (general m rs) → SetsCsr m f (instr.Ctcmsa cd rs)
 
--- the sixteen addresses of an access, modulo 2^64, all lie in a window of len bytes from base
-abbrev pub inside : ℕ → ℕ → ℕ → Bool
-inside base len x = leb base x && ltb x (base + len)
+-- ---- what they ask for
 
-unfoldable pub every : ℕ → (ℕ → Bool) → Bool
-every zero f = true
-every (suc k) f = f k && every k f
+-- all sixteen addresses of an access, modulo 2^64, lie in a window
+abbrev pub AllInside : ℕ → ℕ → ℕ → Type 0
+AllInside base len a = (k : ℕ) → k < 16 → Inside base len ((a + k) % 2 ^ 64)
 
-abbrev pub holdsAll : ℕ → ℕ → ℕ → Bool
-holdsAll base len a = every 16 (λ k. inside base len ((a + k) % 2 ^ 64))
+abbrev pub InTable : Env → ℕ → Type 0
+InTable e a = AllInside (e .bases .table) (length (e .table)) a
 
-abbrev pub inTable : Env → ℕ → Bool
-inTable e a = holdsAll (e .bases .table) (length (e .table)) a
+abbrev pub InWork : Env → Machine → ℕ → Type 0
+InWork e m a = AllInside (e .bases .work) (length (m .work)) a
 
-abbrev pub inWork : Env → Machine → ℕ → Bool
-inWork e m a = holdsAll (e .bases .work) (length (m .work)) a
+-- bit k of x where the bits outside 0107FFFF are cleared
+abbrev pub Left : ℕ → ℕ → Type 0
+Left x k = Bit k x × Bit k csrBits
 
--- what an instruction does that may stop it: a load or a store at an address, or a value for MSACSR
-pub data Risk : Type 0 where
-  none : Risk
-  load : ℕ → Risk
-  store : ℕ → Risk
-  csr : ℕ → Risk
+-- the value x arms a float trap: bit 17, or a position that bits 16..12 and 11..7 share
+abbrev pub Arms : ℕ → Type 0
+Arms x = Left x 17 ⊎ Some (λ k. (k < 5) × Left x (12 + k) × Left x (7 + k))
 
-abbrev pub riskOf : Machine → Instr → Risk
-riskOf m (instr.Three o df wd ws wt) = none
-riskOf m (instr.Indexed o df wd ws rt) = none
-riskOf m (instr.Imm5 o df wd ws imm) = none
-riskOf m (instr.Ldi df wd imm) = none
-riskOf m (instr.Bit o df wd ws k) = none
-riskOf m (instr.Imm8 o wd ws imm) = none
-riskOf m (instr.Shf df wd ws imm) = none
-riskOf m (instr.Element o df wd ws n) = none
-riskOf m (instr.Copy o df rd ws n) = none
-riskOf m (instr.Insert df wd n rs) = none
-riskOf m (instr.Move wd ws) = none
-riskOf m (instr.Cfcmsa rd cs) = none
-riskOf m (instr.Ctcmsa cd rs) = cond (eqb (cd .0) 1) (csr (masked (generalAt (m .gen) rs))) none
-riskOf m (instr.Vec o wd ws wt) = none
-riskOf m (instr.Fill df wd rs) = none
-riskOf m (instr.Count o df wd ws) = none
-riskOf m (instr.Memory Ld df wd offset rs) = load (address df offset (generalAt (m .gen) rs))
-riskOf m (instr.Memory St df wd offset rs) = store (address df offset (generalAt (m .gen) rs))
-riskOf m (instr.Branch o df wt offset) = none
-riskOf m (instr.BranchV o wt offset) = none
-riskOf m (instr.Scaled o rd rs rt sa) = none
+-- ---- the table
 
--- 17: the sixteen bytes lie in no single window
-abbrev pub nowhere : Env → Machine → Risk → Bool
-nowhere e m none = false
-nowhere e m (load a) = not (inTable e a || inWork e m a)
-nowhere e m (store a) = not (inTable e a || inWork e m a)
-nowhere e m (csr x) = false
+-- program word i stands at the counter
+abbrev pub StandsAt : List ℕ → Env → Machine → ℕ → Type 0
+StandsAt p e m i = (i < length p / 4) × (m .ctl .pc ≡ e .bases .program + 4 * i)
 
--- 18: a store wholly inside the table
-abbrev pub readOnly : Env → Risk → Bool
-readOnly e none = false
-readOnly e (load a) = false
-readOnly e (store a) = inTable e a
-readOnly e (csr x) = false
+-- the word at the counter reads as r
+abbrev pub ReadsAs : List ℕ → Env → Machine → Read → Type 0
+ReadsAs p e m r = Some (λ i. StandsAt p e m i × (readOf (little p (4 * i) 4) ≡ r))
 
--- 19: a value that arms a float trap
-abbrev pub trapping : Risk → Bool
-trapping none = false
-trapping (load a) = false
-trapping (store a) = false
-trapping (csr x) = arms x
+-- the word at the counter reads as an instruction of which f holds
+pub record Does (p : List ℕ) (e : Env) (m : Machine) (f : Instr → Type 0) : Type 0 where
+  pub instruction : Instr
+  pub reads : ReadsAs p e m (read.Instr instruction)
+  pub holds : f instruction
 
--- what holds of the instruction at the counter, and not of a word that reads as none
-abbrev pub ofInstruction : Read → (Instr → Bool) → Bool
-ofInstruction (read.Not u) f = false
-ofInstruction (read.Instr i) f = f i
-
--- 12 to 19, for what the word at the counter reads as
-abbrev pub stopsReading : Read → Env → Machine → List Row
-stopsReading r e m =
-    row 12 (eqb (readNumber r) 12)
-    ∷ row 13 (eqb (readNumber r) 13)
-    ∷ row 14 (eqb (readNumber r) 14)
-    ∷ row 15 (ofInstruction r (λ i. isBranch (kindOf i) && marked (m .ctl .mark)))
-    ∷ row 16 (ofInstruction r (λ i. heedsSwitch (kindOf i) && not (m .ctl .on)))
-    ∷ row 17 (ofInstruction r (λ i. nowhere e m (riskOf m i)))
-    ∷ row 18 (ofInstruction r (λ i. readOnly e (riskOf m i)))
-    ∷ row 19 (ofInstruction r (λ i. trapping (riskOf m i)))
+-- 12 to 19
+abbrev pub readStops : List ℕ → Env → Machine → List Row
+readStops p e m =
+    row 12 (ReadsAs p e m (read.Not Unassigned))
+    ∷ row 13 (ReadsAs p e m (read.Not LeftOut))
+    ∷ row 14 (ReadsAs p e m (read.Not Other))
+    ∷ row 15 (Does p e m (λ i. IsBranch i × Not (m .ctl .mark ≡ Clear)))
+    ∷ row 16 (Does p e m (λ i. Not (IgnoresSwitch i) × (m .ctl .on ≡ false)))
+    ∷ row 17 (Does p e m (Accesses m (λ o a. Not (InTable e a) × Not (InWork e m a))))
+    ∷ row 18 (Does p e m (Accesses m (λ o a. (o ≡ St) × InTable e a)))
+    ∷ row 19 (Does p e m (SetsCsr m Arms))
     ∷ []
 
 -- the whole table
 abbrev pub stops : List ℕ → Env → Machine → List Row
-stops p e m = row 11 (not (hasWord p e m)) ∷ stopsReading (reading p e m) e m
+stops p e m = row 11 (Not (Some (StandsAt p e m))) ∷ readStops p e m
 
-abbrev pub FirstReason : Type 0
-FirstReason = (p : List ℕ) (e : Env) (m : Machine) → refusal p e m ≡ Accepted → outcomeNumber (stepOf p e m .outcome) ≡ first (stops p e m)
+abbrev pub FirstReason : Type 1
+FirstReason = (p : List ℕ) (e : Env) (m : Machine) → refusal p e m ≡ Accepted → First (stops p e m) (outcomeNumber (stepOf p e m .outcome))
 
--- a run ends for a reason: the first of the table, wherever its budget is not spent, and there is one
-pub record HasReason (p : List ℕ) (e : Env) (budget : ℕ) (r : Run) : Type 0 where
-  pub number : reasonNumber (r .reason) ≡ cond (eqb (r .count) budget) 20 (first (stops p e (r .after)))
-  pub some : r .count < budget → first (stops p e (r .after)) ≡ 0 → ⊥
+-- ---- the answers
 
-abbrev pub RunReason : Type 0
-RunReason =
-    (p : List ℕ) (e : Env) (budget : ℕ) (m : Machine) → refusal p e m ≡ Accepted → HasReason p e budget (wholeRun p e budget m)
+-- `step::step`
+abbrev pub StepAnswers : Type 1
+StepAnswers =
+    (p : List ℕ) (e : Env) (m : Machine) (r : Answered) (v g w : List ℕ) → WholeIs (wholeStep p e m) r v g w
+    → First (limits p e m ++ stops p e m) (answerNumber (r .answer))
+
+-- `run::run`: the stops are those of the machine that it leaves, and there is one
+pub record Answers (p : List ℕ) (e : Env) (budget : ℕ) (m : Machine) (reason count : ℕ) (after : Machine) : Type 1 where
+  pub number : First (limits p e m ++ row 20 (count ≡ budget) ∷ stops p e after) reason
+  pub some : Not (reason ≡ 0)
+
+abbrev pub RunAnswers : Type 1
+RunAnswers =
+    (p : List ℕ) (e : Env) (budget : ℕ) (m : Machine) (r : Ended) (v g w : List ℕ) → RunIs (wholeRun p e budget m) r v g w
+    → Answers p e budget m (reasonNumber (r .reason)) (r .count) (machine v g w (r .control))
