@@ -1,12 +1,10 @@
 -- What the operation of each encoding class makes of registers: d, s and t are the old wd, ws and wt, n the bits of the format.
+use mathlib.Core.Bool.{Bool, true, false}
 use Prim.Native.Nat.{ℕ, _/_, _%_}
+use Rattle.isa.specs.declared.Arith.{Arith}
 use Rattle.isa.specs.declared.Arith.the-variants as arith
-use Rattle.isa.specs.declared.Basic.{Basic}
-use Rattle.isa.specs.declared.Basic.the-variants as basic
 use Rattle.isa.specs.declared.BitOp.{BitOp}
 use Rattle.isa.specs.declared.BitOp.the-variants as bit
-use Rattle.isa.specs.declared.Compare.{Compare}
-use Rattle.isa.specs.declared.Compare.the-variants as compare
 use Rattle.isa.specs.declared.Count.{Count}
 use Rattle.isa.specs.declared.Element.{Element}
 use Rattle.isa.specs.declared.Element.the-variants.{Sldi, Splati, Insve}
@@ -17,6 +15,7 @@ use Rattle.isa.specs.declared.Indexed.the-variants.{Sld, Splat}
 use Rattle.isa.specs.declared.Logic.{Logic}
 use Rattle.isa.specs.declared.Three.{Three}
 use Rattle.isa.specs.declared.Three.the-variants as three
+use Rattle.isa.specs.Immediates.{imm5Signed}
 use Rattle.lanes.specs.declared.Lane.the-variants as lane
 use Rattle.element.specs.Value.{signed, wrap}
 use Rattle.vectors.specs.Register.{element, whole, together, filled}
@@ -47,33 +46,18 @@ elementOf Sldi n d s i = slid n d s i
 elementOf Splati n d s i = splatted n s i
 elementOf Insve n d s i = whole n (withElement i (element n s 0) n d)
 
--- the five bits of an immediate, and the same as a signed number in 64 bits
-abbrev pub five : ℕ → ℕ
-five imm = imm % 32
+-- the five bits of an immediate, as a signed number in 64 bits or as they are
+abbrev pub immediate : Bool → ℕ → ℕ
+immediate true imm = wrap 64 (signed 5 (imm % 32))
+immediate false imm = imm % 32
 
-abbrev pub signedFive : ℕ → ℕ
-signedFive imm = wrap 64 (signed 5 (imm % 32))
+abbrev pub imm5Arith : Imm5 → Arith
+imm5Arith (imm5.Basic o) = arith.Basic o
+imm5Arith (imm5.Compare o) = arith.Compare o
 
--- MAXI_S, MINI_S, CEQI, CLTI_S and CLEI_S have a signed immediate, the others an unsigned one
-abbrev pub basicImmediate : Basic → ℕ → ℕ
-basicImmediate basic.Addv imm = five imm
-basicImmediate basic.Subv imm = five imm
-basicImmediate basic.MaxS imm = signedFive imm
-basicImmediate basic.MaxU imm = five imm
-basicImmediate basic.MinS imm = signedFive imm
-basicImmediate basic.MinU imm = five imm
-
-abbrev pub compareImmediate : Compare → ℕ → ℕ
-compareImmediate compare.Ceq imm = signedFive imm
-compareImmediate compare.CltS imm = signedFive imm
-compareImmediate compare.CltU imm = five imm
-compareImmediate compare.CleS imm = signedFive imm
-compareImmediate compare.CleU imm = five imm
-
--- an immediate, modulo 2^n, stands in every element in the place of wt
+-- the immediate, modulo 2^n, stands in every element in the place of wt
 abbrev pub imm5Of : Imm5 → ℕ → ℕ → ℕ → ℕ
-imm5Of (imm5.Basic o) n s imm = eachLane (lane.Arith (arith.Basic o)) n s s (filled n (basicImmediate o imm))
-imm5Of (imm5.Compare o) n s imm = eachLane (lane.Arith (arith.Compare o)) n s s (filled n (compareImmediate o imm))
+imm5Of o n s imm = eachLane (lane.Arith (imm5Arith o)) n s s (filled n (immediate (imm5Signed o) imm))
 
 abbrev pub bitOf : BitOp → ℕ → ℕ → ℕ → ℕ → ℕ
 bitOf o n d s m = eachLane (lane.Bit o) n d s (filled n m)

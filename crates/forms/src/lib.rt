@@ -3,12 +3,11 @@
 ghost use mathlib.Core.Path.{_≡_};
 ghost use Rattle.isa.specs.Widths.{bits};
 ghost use Rattle.memory.specs.Value.{value, register};
-ghost use Rattle.forms.specs.Forms.{threeOf, indexedOf, basicImmediate, compareImmediate, imm5Of, bitOf, imm8Of, elementOf, countOf};
+ghost use Rattle.forms.specs.Forms.{threeOf, indexedOf, imm5Arith, imm5Of, bitOf, imm8Of, elementOf, countOf};
+ghost use Rattle.forms.specs.Forms as forms;
 use each::each;
 use isa::Arith;
-use isa::Basic;
 use isa::BitOp;
-use isa::Compare;
 use isa::Count;
 use isa::Element;
 use isa::Imm5;
@@ -16,6 +15,7 @@ use isa::Indexed;
 use isa::Logic;
 use isa::Three;
 use isa::Width;
+use isa::immediates::imm5_signed;
 use lanes::Lane;
 use logic::logic;
 use memory::Register;
@@ -51,32 +51,22 @@ pub fn indexed(op: Indexed, w: Width, d: Register, s: Register, x: u64) -> Regis
 }
 
 // The immediate of I5, carried to 64 bits with or without its sign.
-fn basic_immediate(op: Basic, imm: u8) -> u64
-    ensures { λ r. ⌜ r ≡ basicImmediate op imm ⌝ }
+fn immediate(signed: bool, imm: u8) -> u64
+    ensures { λ r. ⌜ r ≡ forms.immediate signed imm ⌝ }
 {
     let bits = (imm as u64) % 32;
-    let number = extend(5, bits);
-    match op {
-        Basic::Addv => bits,
-        Basic::Subv => bits,
-        Basic::MaxS => number,
-        Basic::MaxU => bits,
-        Basic::MinS => number,
-        Basic::MinU => bits,
+    if signed {
+        return extend(5, bits);
     }
+    bits
 }
 
-fn compare_immediate(op: Compare, imm: u8) -> u64
-    ensures { λ r. ⌜ r ≡ compareImmediate op imm ⌝ }
+fn imm5_arith(op: Imm5) -> Arith
+    ensures { λ r. ⌜ r ≡ imm5Arith op ⌝ }
 {
-    let bits = (imm as u64) % 32;
-    let number = extend(5, bits);
     match op {
-        Compare::Ceq => number,
-        Compare::CltS => number,
-        Compare::CltU => bits,
-        Compare::CleS => number,
-        Compare::CleU => bits,
+        Imm5::Basic(o) => Arith::Basic(o),
+        Imm5::Compare(o) => Arith::Compare(o),
     }
 }
 
@@ -84,22 +74,8 @@ fn compare_immediate(op: Compare, imm: u8) -> u64
 pub fn imm5(op: Imm5, w: Width, s: Register, imm: u8) -> Register
     ensures { λ r. ⌜ r ≡ register (imm5Of op (bits w) (value s) imm) ⌝ }
 {
-    match op {
-        Imm5::Basic(o) => each(
-            Lane::Arith(Arith::Basic(o)),
-            w,
-            s,
-            s,
-            spread(w, basic_immediate(o, imm)),
-        ),
-        Imm5::Compare(o) => each(
-            Lane::Arith(Arith::Compare(o)),
-            w,
-            s,
-            s,
-            spread(w, compare_immediate(o, imm)),
-        ),
-    }
+    let t = spread(w, immediate(imm5_signed(op), imm));
+    each(Lane::Arith(imm5_arith(op)), w, s, s, t)
 }
 
 pub fn bit(op: BitOp, w: Width, d: Register, s: Register, m: u8) -> Register

@@ -1,6 +1,7 @@
 // The decoded instruction: what a word says, and nothing of how it is laid out in bits or what it does.
 // The operation enums follow the rows of the manual's Tables 3.19 to 3.28, so none has more than eight variants. Where one operation
 // stands in two formats (ADDV and ADDVI, SLL and SLLI, AND.V and ANDI.B) both hold the same enum: its meaning is then said once.
+pub mod immediates;
 
 // The three register files, kept apart as the manual keeps wd, rs and cs apart.
 pub struct Vreg(pub u8);

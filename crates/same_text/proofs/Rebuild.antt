@@ -12,6 +12,7 @@ use lib.ListN.{length, getD, drop}
 use Rattle.isa.specs.declared.Width.{Width}
 use Rattle.isa.specs.declared.Width.the-variants.{B, H, W, D}
 use Rattle.isa.specs.Widths as format
+use Rattle.isa.specs.Immediates.{imm5Signed}
 use Rattle.cells.specs.declared.Cell.{Cell}
 use Rattle.cells.specs.declared.Cell.the-variants as cell
 use Rattle.cells.specs.Tables.{rowAt, cellIn}
@@ -20,7 +21,7 @@ use Rattle.fields.specs.Fields.{pick, wordOf}
 use Rattle.writing.specs.Writing as writing
 use Rattle.listing.specs.Listing.{letter}
 use Rattle.shown.specs.declared.Number.{Number}
-use Rattle.shown.specs.Shown.{number, signed, imm5Signed}
+use Rattle.shown.specs.Shown.{number, signed}
 use Rattle.same_text.proofs.Scan.{mark, run}
 use Rattle.same_text.proofs.Heads.{head, letterAt, lookup}
 use Rattle.same_text.proofs.Tokens.{signTokens}

@@ -22,6 +22,7 @@ use Rattle.isa.specs.declared.Width.the-variants.{B, H, W, D}
 use Rattle.isa.specs.declared.Written.the-variants.{Word, Refused}
 use Rattle.isa.specs.declared.Zero.the-variants.{Bz, Bnz}
 use Rattle.isa.specs.Widths as format
+use Rattle.isa.specs.Immediates.{imm5Signed}
 use Rattle.fields.specs.Fields.{pick, fits, wordOf}
 use Rattle.reading.specs.Reading.{readOf}
 use Rattle.writing.specs.Writing.{layoutOf, writeOf}
@@ -33,7 +34,7 @@ use Rattle.words.proofs.ReadWrite.{read-write}
 use Rattle.words.proofs.Tables.{three-cell, imm5-cell, bit-cell, indexed-cell}
 use Rattle.names.specs.Names.{name}
 use Rattle.shown.specs.declared.Shown.{Shown}
-use Rattle.shown.specs.Shown.{number, shownOf, signed, imm5Signed, imm5Number}
+use Rattle.shown.specs.Shown.{number, shownOf, signed, imm5Number}
 use Rattle.listing.specs.Listing.{letter, shownText, textOf}
 use Rattle.same_text.specs.SameText as statement
 use Rattle.same_text.proofs.Scan.{run}

@@ -6,12 +6,6 @@ use lib.Dec.{ltb}
 use Rattle.isa.specs.declared.Vreg.{Vreg}
 use Rattle.isa.specs.declared.Width.{Width}
 use Rattle.isa.specs.declared.Width.the-variants.{B}
-use Rattle.isa.specs.declared.Basic.{Basic}
-use Rattle.isa.specs.declared.Basic.the-variants as basic
-use Rattle.isa.specs.declared.Compare.{Compare}
-use Rattle.isa.specs.declared.Compare.the-variants as compare
-use Rattle.isa.specs.declared.Imm5.{Imm5}
-use Rattle.isa.specs.declared.Imm5.the-variants as imm5
 use Rattle.isa.specs.declared.Element.{Element}
 use Rattle.isa.specs.declared.Element.the-variants as element
 use Rattle.isa.specs.declared.Scaled.{Scaled}
@@ -26,6 +20,7 @@ use Rattle.shown.specs.declared.Operand.the-variants as operand
 use Rattle.shown.specs.declared.Operand.the-variants.{Nothing, Vector, General, Control, Chosen, Offset}
 use Rattle.shown.specs.declared.Shown.{Shown}
 use Rattle.fields.specs.Fields.{pick}
+use Rattle.isa.specs.Immediates.{imm5Signed}
 use Rattle.isa.specs.Widths.{bytes}
 use Rattle.codes.specs.Codes as codes
 
@@ -45,26 +40,7 @@ signed full x = pick (ltb (x % full) (full / 2)) (number false (x % full)) (numb
 abbrev pub scaled : Width → Number → Number
 scaled df n = number (n .minus) (n .size * bytes df)
 
--- whether I5 takes its immediate as signed: CEQI, CLTI_S, CLEI_S, MAXI_S and MINI_S do
-abbrev pub basicSigned : Basic → Bool
-basicSigned basic.Addv = false
-basicSigned basic.Subv = false
-basicSigned basic.MaxS = true
-basicSigned basic.MaxU = false
-basicSigned basic.MinS = true
-basicSigned basic.MinU = false
-
-abbrev pub compareSigned : Compare → Bool
-compareSigned compare.Ceq = true
-compareSigned compare.CltS = true
-compareSigned compare.CltU = false
-compareSigned compare.CleS = true
-compareSigned compare.CleU = false
-
-abbrev pub imm5Signed : Imm5 → Bool
-imm5Signed (imm5.Basic o) = basicSigned o
-imm5Signed (imm5.Compare o) = compareSigned o
-
+-- the immediate of I5, signed or not
 abbrev pub imm5Number : Bool → ℕ → Number
 imm5Number true imm = signed (2 ^ 5) imm
 imm5Number false imm = number false imm

@@ -1,9 +1,6 @@
 // The numbers that operands show: fields with their sign, offsets in bytes.
 use crate::Number;
 use crate::Operand;
-use isa::Basic;
-use isa::Compare;
-use isa::Imm5;
 use isa::Width;
 ghost use mathlib.Core.Path.{_≡_};
 ghost use Prim.Native.Nat.{_<_, _≤_};
@@ -44,40 +41,6 @@ pub fn scaled(df: Width, n: Number) -> Number
         Width::H => number(n.minus, n.size * 2),
         Width::W => number(n.minus, n.size * 4),
         Width::D => number(n.minus, n.size * 8),
-    }
-}
-
-fn basic_signed(op: Basic) -> bool
-    ensures { λ r. ⌜ r ≡ shows.basicSigned op ⌝ }
-{
-    match op {
-        Basic::Addv => false,
-        Basic::Subv => false,
-        Basic::MaxS => true,
-        Basic::MaxU => false,
-        Basic::MinS => true,
-        Basic::MinU => false,
-    }
-}
-
-fn compare_signed(op: Compare) -> bool
-    ensures { λ r. ⌜ r ≡ shows.compareSigned op ⌝ }
-{
-    match op {
-        Compare::Ceq => true,
-        Compare::CltS => true,
-        Compare::CltU => false,
-        Compare::CleS => true,
-        Compare::CleU => false,
-    }
-}
-
-pub fn imm5_signed(op: Imm5) -> bool
-    ensures { λ r. ⌜ r ≡ shows.imm5Signed op ⌝ }
-{
-    match op {
-        Imm5::Basic(o) => basic_signed(o),
-        Imm5::Compare(o) => compare_signed(o),
     }
 }
 
