@@ -16,7 +16,7 @@ module _ (v g w b b′ : List ℕ) where
   pub steps-to : (s : Whole) (a : Answered) (n : ℕ) → WholeIs s a v g w → n ≡ answerNumber (a .answer)
       → b′ ≡ cond (eqb n 0) (written (a .control) b) b → StepsTo s n v g w b b′
   steps-to s a n i e h =
-      let number : n ≡ answerNumber (s .answer) = e ∙ ap answerNumber (i .answer) in
+      let number : n ≡ answerNumber (s .answer) = e ∙ i .answer in
       record {
         answer = number;
         vec = i .vec;
@@ -28,7 +28,7 @@ module _ (v g w b b′ : List ℕ) where
   pub runs-to : (s : Run) (a : Ended) (n : ℕ) → RunIs s a v g w → n ≡ reasonNumber (a .reason)
       → b′ ≡ cond (ltb 0 (a .count)) (written (a .control) b) b → RunsTo s (n + 2 ^ 32 * a .count) v g w b b′
   runs-to s a n i e h =
-      let number : n ≡ reasonNumber (s .reason) = e ∙ ap reasonNumber (i .reason) in
+      let number : n ≡ reasonNumber (s .reason) = e ∙ i .reason in
       record {
         answer = ap (λ x. x + 2 ^ 32 * a .count) number ∙ ap (λ k. reasonNumber (s .reason) + 2 ^ 32 * k) (i .count);
         vec = i .vec;

@@ -1,2 +1,3 @@
+pub mod Immediates
 pub mod Numbers
 pub mod Widths

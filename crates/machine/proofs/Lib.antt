@@ -1,2 +1,3 @@
+pub mod Said
 pub mod RunLaws
 pub mod StepLaws

@@ -85,8 +85,7 @@ ends-is : (whole : Run) (why : Reason) (count : ℕ) (m : Machine) → adding co
     → RunIs whole (record { reason = why; count = count; control = m .ctl }) (m .vec) (m .gen) (m .work)
 ends-is whole why count m ends =
     record {
-      reason = ap (λ x. x .reason) ends;
-      number = ap (λ x. reasonNumber (x .reason)) ends;
+      reason = ap (λ x. reasonNumber (x .reason)) ends;
       count = sym (add-zero count) ∙ ap (λ x. x .count) ends;
       control = ap (λ x. x .after .ctl) ends;
       vec = ap (λ x. x .after .vec) ends;
@@ -118,7 +117,6 @@ module _ (p : List ℕ) (e : Env) (budget count : ℕ) (m : Machine) (whole : Ru
       in
       record {
         reason = r .reason;
-        number = r .number;
         count = r .count;
         control = r .control;
         vec = s .vec ∙ ap (λ y. y .vec) kept ∙ r .vec;

@@ -16,10 +16,8 @@ stopped-is s m r e = record { outcome = ap (λ x. x .outcome) e; control = ap (�
 pub ran-is : (s : Result) (t : Stepped) (r : Answered) (v g w : List ℕ) → StepIs s t v g w → r ≡ ranAs t
     → WholeIs (record { answer = Ran (s .outcome); after = s .after }) r v g w
 ran-is s t r v g w i e =
-    let a = ap (λ x. x .answer) e ∙ ap Ran (i .outcome) in
     record {
-      answer = a;
-      number = ap answerNumber a;
+      answer = ap answerNumber (ap (λ x. x .answer) e ∙ ap Ran (i .outcome));
       control = ap (λ x. x .control) e ∙ i .control;
       vec = i .vec;
       gen = i .gen;

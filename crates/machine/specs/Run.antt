@@ -46,8 +46,7 @@ wholeRun program e budget m = admitted (refusal program e m) (runs program e bud
 
 -- the code's answer for a run, and what the lent memory holds then
 pub record RunIs (s : Run) (r : Ended) (v g w : List ℕ) : Type 0 where
-  pub reason : r .reason ≡ s .reason
-  pub number : reasonNumber (r .reason) ≡ reasonNumber (s .reason)
+  pub reason : reasonNumber (r .reason) ≡ reasonNumber (s .reason)
   pub count : r .count ≡ s .count
   pub control : r .control ≡ s .after .ctl
   pub vec : v ≡ s .after .vec

@@ -94,8 +94,7 @@ abbrev pub ranAs : Stepped → Answered
 ranAs s = record { answer = Ran (s .outcome); control = s .control }
 
 pub record WholeIs (s : Whole) (r : Answered) (v g w : List ℕ) : Type 0 where
-  pub answer : r .answer ≡ s .answer
-  pub number : answerNumber (r .answer) ≡ answerNumber (s .answer)
+  pub answer : answerNumber (r .answer) ≡ answerNumber (s .answer)
   pub control : r .control ≡ s .after .ctl
   pub vec : v ≡ s .after .vec
   pub gen : g ≡ s .after .gen

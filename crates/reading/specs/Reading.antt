@@ -32,7 +32,7 @@ use Rattle.cells.specs.declared.BranchCell.the-variants as branch
 use Rattle.reading.specs.declared.places.Place.{Place}
 use Rattle.reading.specs.declared.places.Place.the-variants as place
 use Rattle.fields.specs.Fields.{pick, bits}
-use Rattle.isa.specs.Numbers.{readNumber}
+use Rattle.isa.specs.Numbers.{readSaid}
 use Rattle.codes.specs.Forms.{hasForm, copyForm}
 use Rattle.cells.specs.Tables.{rowAt, cellIn, elementAt, controlAt, vecAt, twoAt, branchAt, widthAt}
 
@@ -184,11 +184,6 @@ readOf w =
     (pick (eqb (bits w 31 26) 17) (branchIn (branchAt (bits w 25 21)) w)
     (pick (eqb (bits w 31 26) 0) (readSpecial w) (read.Not Other)))
 
--- document 01's number for the word: 0 where it reads as an instruction, else 12, 13 or 14
-abbrev pub wordNumber : ℕ → ℕ
-wordNumber w = readNumber (readOf w)
-
--- what reading a word promises of its answer
+-- what reading a word promises: the answer says what the definition says
 pub record Reads (w : ℕ) (r : Read) : Type 0 where
-  pub answer : r ≡ readOf w
-  pub number : readNumber r ≡ wordNumber w
+  pub said : readSaid r ≡ readSaid (readOf w)

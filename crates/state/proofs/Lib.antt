@@ -1,3 +1,4 @@
+pub mod Said
 pub mod FetchLaws
 pub mod SetupLaws
 pub mod TestLaws

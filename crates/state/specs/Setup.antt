@@ -77,7 +77,6 @@ limits program e m =
 unfoldable pub refusal : List ℕ → Env → Machine → Setup
 refusal program e m = first (limits program e m)
 
--- the code's answer, and its number
+-- what checking a set-up promises: the answer has the definition's number
 pub record Checks (s r : Setup) : Type 0 where
-  pub answer : r ≡ s
   pub number : setupNumber r ≡ setupNumber s

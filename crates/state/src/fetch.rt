@@ -1,6 +1,5 @@
 // The word at the program counter. The program is a store of its own: its words' bytes, word i at base + 4i.
-ghost use mathlib.Core.Path.{_≡_};
-ghost use Rattle.state.specs.Fetch.{fetched};
+ghost use Rattle.state.specs.Fetch.{Fetches};
 
 pub enum Fetched {
     Word(u32),
@@ -8,7 +7,7 @@ pub enum Fetched {
 }
 
 pub fn word_at(program: &[u8], base: u64, pc: u64) -> Fetched
-    ensures { λ r. ⌜ r ≡ fetched (now (program .entry)) base pc ⌝ }
+    ensures { λ r. ⌜ Fetches (now (program .entry)) base pc r ⌝ }
 {
     if pc < base {
         return Fetched::NoWord;

@@ -10,6 +10,7 @@ use Rattle.isa.specs.declared.Unread.the-variants.{Unassigned, LeftOut, Other}
 use Rattle.isa.specs.declared.Read.{Read}
 use Rattle.isa.specs.declared.Read.the-variants as read
 use Rattle.isa.specs.Widths.{elements}
+use Rattle.isa.proofs.Apart.{read-apart, written-apart}
 use Rattle.codes.specs.Forms.{copyForm}
 use Rattle.fields.proofs.Fields.{both-left, both-right, fits-at}
 use Rattle.reading.specs.Reading.{readOf}
@@ -21,7 +22,7 @@ use Rattle.words.proofs.ReadWrite.{Back, back, read-write}
 use Rattle.words.proofs.WriteRead.{Fit, fit}
 
 answer : (w : ℕ) (r : Read) → Back w r → Answer w r
-answer w (read.Instr i) b = instruction refl
+answer w (read.Instr i) b = instruction i refl
 answer w (read.Not Unassigned) b = unassigned (sym b) refl
 answer w (read.Not LeftOut) b = left-out (sym b) refl
 answer w (read.Not Other) b = other (λ e. b (sym e)) refl
@@ -63,7 +64,7 @@ pub read-formed : theorems.ReadFormed
 read-formed w i h e = write-formed i w (read-write w i h e)
 
 pub read-unique : theorems.ReadUnique
-read-unique w r s p q = p .answer ∙ sym (q .answer)
+read-unique w r s p q = read-apart r s (p .said ∙ sym (q .said))
 
 pub write-unique : theorems.WriteUnique
-write-unique i r s p q = p .answer ∙ sym (q .answer)
+write-unique i r s p q = written-apart r s (p .said ∙ sym (q .said))

@@ -20,13 +20,14 @@ use Rattle.isa.specs.declared.Zero.the-variants.{Bz, Bnz}
 use Rattle.isa.specs.declared.Scaled.the-variants.{Lsa, Dlsa}
 use Rattle.isa.specs.declared.Instr.{Instr}
 use Rattle.isa.specs.declared.Instr.the-variants as instr
+use Rattle.isa.specs.Numbers.{numberIn, writtenSaid}
 use Rattle.isa.specs.Widths as format
 use Rattle.codes.specs.Codes as codes
 use Rattle.fields.specs.Fields.{fits}
 use Rattle.cells.specs.declared.Cell.{Cell}
 use Rattle.cells.specs.declared.Cell.the-variants as cell
 use Rattle.cells.specs.Tables.{rows, rowAt, cellIn}
-use Rattle.writing.specs.Writing.{writeOf, layoutOf, instrNumber, bitCode, elementPlaceCode}
+use Rattle.writing.specs.Writing.{writeOf, layoutOf, bitCode, elementPlaceCode}
 use Rattle.words.specs.Formed.{Formed}
 use Rattle.words.specs.Theorems as theorems
 use Rattle.words.proofs.Tables.{three-cell, imm5-cell, bit-cell, indexed-cell}
@@ -66,7 +67,7 @@ element-field H n h = lt-ltb (32 + n) 64 (omega arith)
 element-field W n h = lt-ltb (48 + n) 64 (omega arith)
 element-field D n h = lt-ltb (56 + n) 64 (omega arith)
 
-written : (i : Instr) → layoutOf i .ok ≡ true → fits (layoutOf i .widths) (layoutOf i .values) ≡ true → instrNumber i ≡ 0
+written : (i : Instr) → layoutOf i .ok ≡ true → fits (layoutOf i .widths) (layoutOf i .values) ≡ true → numberIn (writtenSaid (writeOf i)) ≡ 0
 unfolding writeOf
 written i ok f = rw (ok, f)
 

@@ -6,10 +6,10 @@ use Rattle.isa.specs.declared.Read.{Read}
 use Rattle.isa.specs.declared.Read.the-variants as read
 use Rattle.isa.specs.declared.Written.{Written}
 use Rattle.isa.specs.declared.Written.the-variants.{Word}
-use Rattle.isa.specs.Numbers.{readNumber}
+use Rattle.isa.specs.Numbers.{number, values, numberIn, readSaid, writtenSaid}
 use Rattle.fields.specs.Fields.{bits}
 use Rattle.reading.specs.Reading.{readOf, Reads}
-use Rattle.writing.specs.Writing.{writeOf, instrNumber, Writes}
+use Rattle.writing.specs.Writing.{writeOf, Writes}
 use Rattle.words.specs.Formed.{Formed}
 
 -- a word that reads as an instruction is the word of that instruction
@@ -25,10 +25,10 @@ WriteBelow = (i : Instr) (w : ℕ) → writeOf i ≡ Word w → w < 2 ^ 32
 
 -- the answers to a word: an instruction, or 12 or 13 under the major opcode 011110, or 14 under another
 pub data Answer (w : ℕ) (r : Read) : Type 0 where
-  instruction : readNumber r ≡ 0 → Answer w r
-  unassigned : bits w 31 26 ≡ 30 → readNumber r ≡ 12 → Answer w r
-  left-out : bits w 31 26 ≡ 30 → readNumber r ≡ 13 → Answer w r
-  other : (bits w 31 26 ≡ 30 → ⊥) → readNumber r ≡ 14 → Answer w r
+  instruction : (i : Instr) → readSaid r ≡ values i → Answer w r
+  unassigned : bits w 31 26 ≡ 30 → readSaid r ≡ number 12 → Answer w r
+  left-out : bits w 31 26 ≡ 30 → readSaid r ≡ number 13 → Answer w r
+  other : (bits w 31 26 ≡ 30 → ⊥) → readSaid r ≡ number 14 → Answer w r
 
 abbrev pub OneAnswer : Type 0
 OneAnswer = (w : ℕ) → w < 2 ^ 32 → Answer w (readOf w)
@@ -42,7 +42,7 @@ WriteFormed = (i : Instr) (w : ℕ) → writeOf i ≡ Word w → Formed i
 
 -- and what is within its fields has a word: 6 is given exactly where an instruction is not
 abbrev pub FormedWrites : Type 0
-FormedWrites = (i : Instr) → Formed i → instrNumber i ≡ 0
+FormedWrites = (i : Instr) → Formed i → numberIn (writtenSaid (writeOf i)) ≡ 0
 
 -- two answers that meet the promise are equal
 abbrev pub ReadUnique : Type 0

@@ -16,7 +16,7 @@ use Rattle.writing.specs.declared.Layout.{Layout}
 use Rattle.codes.specs.Codes as codes
 use Rattle.fields.specs.Fields.{pick, both, total, wordOf, fits}
 use Rattle.codes.specs.Forms.{hasForm, copyForm, notD}
-use Rattle.isa.specs.Numbers.{writtenNumber}
+use Rattle.isa.specs.Numbers.{writtenSaid}
 use Rattle.isa.specs.Widths as format
 
 -- the widths of the fields, Figures 3-36 to 3-47 and the page of LSA; seven each, the last ones 0 where there are fewer
@@ -113,11 +113,6 @@ sealed l = pick (l .ok) (packed (l .widths) (l .values)) Refused
 unfoldable pub writeOf : Instr → Written
 writeOf i = sealed (layoutOf i)
 
--- document 01's number for the instruction: 0 where it has a word, else 6
-abbrev pub instrNumber : Instr → ℕ
-instrNumber i = writtenNumber (writeOf i)
-
--- what writing an instruction promises of its answer
+-- what writing an instruction promises: the answer says what the definition says
 pub record Writes (i : Instr) (r : Written) : Type 0 where
-  pub answer : r ≡ writeOf i
-  pub number : writtenNumber r ≡ instrNumber i
+  pub said : writtenSaid r ≡ writtenSaid (writeOf i)

@@ -3,15 +3,14 @@ use borrow.Author.Tests.{eq-eqb, ne-eqb}
 use mathlib.Core.Path.{_≡_, ap}
 use Prim.Native.Nat.{ℕ}
 use Rattle.isa.specs.declared.Read.{Read}
-use Rattle.isa.specs.Numbers.{readNumber}
+use Rattle.isa.specs.Numbers.{readSaid}
 use Rattle.reading.specs.Reading.{readOf, Reads}
 use borrow.Author.Needs.{needs}
 use Rattle.reading.proofs.read_word.Statement.{statement}
 use Rattle.reading.proofs.read_word.Tie as tie
 
--- the number follows from the answer
 reads : {w : ℕ} {r : Read} → r ≡ readOf w → Reads w r
-reads e = record { answer = e; number = ap readNumber e }
+reads e = record { said = ap readSaid e }
 
 returns : tie.Need-returns
 unfolding readOf

@@ -1,4 +1,5 @@
 -- `machine::run::run`: refused, or run by `turns`. Assumes nothing.
+use Rattle.state.proofs.Said.{setup-is}
 use Rattle.state.proofs.SetupLaws.{accepted}
 use Rattle.state.specs.Machine.{env, machine}
 use borrow.Author.Needs.{needs}
@@ -9,14 +10,14 @@ use Rattle.machine.proofs.run.run.Tie as tie
 turns-requires : tie.Need-turns-requires
 turns-requires c κs =
     let a = c .before .before .before .before .before .before .before .before .before .before .before .before .before .before .args in
-    let sized = accepted (a .program .now) (env (a .bases) (a .table .now)) (machine (a .vectors .now) (a .generals .now) (a .work .now) (a .c)) (sym (c .before .before .before .before .before .check .ensures .answer) ∙ c .before .before .before .enum-told .given .1) in
+    let sized = accepted (a .program .now) (env (a .bases) (a .table .now)) (machine (a .vectors .now) (a .generals .now) (a .work .now) (a .c)) (sym (setup-is (c .before .before .before .before .before .check .ensures)) ∙ c .before .before .before .enum-told .given .1) in
     (sized .vectors, sized .generals)
 
 returns : tie.Need-returns
-returns c = rw (← c .before .before .before .before .before .before .before .before .before .before .before .before .check .ensures .answer, c .before .before .before .before .before .before .before .before .before .before .enum-told .given .1) (c .before .before .before .before .before .before .turns .ensures)
+returns c = rw (← setup-is (c .before .before .before .before .before .before .before .before .before .before .before .before .check .ensures), c .before .before .before .before .before .before .before .before .before .before .enum-told .given .1) (c .before .before .before .before .before .before .turns .ensures)
 
 returns-2 : tie.Need-returns-2
-returns-2 c = rw (← c .before .before .before .check .ensures .answer, c .before .r .given .1) (record { reason = refl; number = refl; count = refl; control = refl; vec = refl; gen = refl; work = refl })
+returns-2 c = rw (← setup-is (c .before .before .before .check .ensures), c .before .r .given .1) (record { reason = refl; count = refl; control = refl; vec = refl; gen = refl; work = refl })
 
 pub run-spec : {M : Type 1} → statement M
 run-spec =

@@ -1,5 +1,6 @@
 -- `machine::step::step`: refused, or done by `advance`. Assumes nothing.
 use Rattle.machine.proofs.StepLaws.{ran-is}
+use Rattle.state.proofs.Said.{setup-is}
 use Rattle.state.proofs.SetupLaws.{accepted}
 use Rattle.state.specs.Machine.{env, machine}
 use borrow.Author.Needs.{needs}
@@ -10,14 +11,14 @@ use Rattle.machine.proofs.step.step.Tie as tie
 advance-requires : tie.Need-advance-requires
 advance-requires c κs =
     let a = c .before .before .before .before .before .before .before .before .before .before .before .before .before .before .args in
-    let sized = accepted (a .program .now) (env (a .bases) (a .table .now)) (machine (a .vectors .now) (a .generals .now) (a .work .now) (a .c)) (sym (c .before .before .before .before .before .check .ensures .answer) ∙ c .before .before .before .enum-told .given .1) in
+    let sized = accepted (a .program .now) (env (a .bases) (a .table .now)) (machine (a .vectors .now) (a .generals .now) (a .work .now) (a .c)) (sym (setup-is (c .before .before .before .before .before .check .ensures)) ∙ c .before .before .before .enum-told .given .1) in
     (sized .vectors, sized .generals)
 
 returns : tie.Need-returns
-returns c = rw (← c .before .before .before .before .before .before .before .before .before .before .before .before .before .check .ensures .answer, c .before .before .before .before .before .before .before .before .before .before .before .enum-told .given .1) (ran-is _ _ _ _ _ _ (c .before .before .before .before .before .before .before .advance .ensures) (c .ran .ensures))
+returns c = rw (← setup-is (c .before .before .before .before .before .before .before .before .before .before .before .before .before .check .ensures), c .before .before .before .before .before .before .before .before .before .before .before .enum-told .given .1) (ran-is _ _ _ _ _ _ (c .before .before .before .before .before .before .before .advance .ensures) (c .ran .ensures))
 
 returns-2 : tie.Need-returns-2
-returns-2 c = rw (← c .before .before .before .check .ensures .answer, c .before .r .given .1) (record { answer = refl; number = refl; control = refl; vec = refl; gen = refl; work = refl })
+returns-2 c = rw (← setup-is (c .before .before .before .check .ensures), c .before .r .given .1) (record { answer = refl; control = refl; vec = refl; gen = refl; work = refl })
 
 pub step-spec : {M : Type 1} → statement M
 step-spec =

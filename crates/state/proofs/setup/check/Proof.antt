@@ -12,13 +12,13 @@ later-requires c κs = generals-sized (length (c .before .before .before .before
 
 returns : tie.Need-returns
 unfolding refusal first
-returns c = rw (← c .before .registers-bad .ensures, c .if1 .taken) (record { answer = refl; number = refl })
+returns c = rw (← c .before .registers-bad .ensures, c .if1 .taken) (record { number = refl })
 
 returns-2 : tie.Need-returns-2
 unfolding refusal first
 returns-2 c =
     rw (← c .before .before .registers-bad .ensures, c .before .if1 .left)
-    (record { answer = c .later .ensures; number = ap setupNumber (c .later .ensures) })
+    (record { number = ap setupNumber (c .later .ensures) })
 
 pub check-spec : {M : Type 1} → statement M
 check-spec =

@@ -1,0 +1,41 @@
+-- What a step and a run promise makes their answers the definitions'. Assumes nothing.
+use mathlib.Core.Path.{_≡_, refl, ap}
+use mathlib.Core.List.{List}
+use Prim.Native.Nat.{ℕ}
+use Rattle.isa.proofs.Apart.{apart, Named, refused, stopped, neither, named, named-refusal, named-stop}
+use Rattle.machine.specs.declared.run.Reason.{Reason}
+use Rattle.machine.specs.declared.run.Reason.the-variants as reason
+use Rattle.machine.specs.declared.step.Answer.{Answer}
+use Rattle.machine.specs.declared.step.Answer.the-variants.{Refused, Ran}
+use Rattle.machine.specs.declared.step.Outcome.the-variants.{Finished, Stopped}
+use Rattle.machine.specs.declared.run.Ended.{Ended}
+use Rattle.machine.specs.declared.step.Answered.{Answered}
+use Rattle.machine.specs.Numbers.{answerNumber, reasonNumber}
+use Rattle.machine.specs.Run.{Run, RunIs}
+use Rattle.machine.specs.Step.{Whole, WholeIs}
+
+abbrev asAnswer : Named → Answer
+asAnswer (refused r) = Refused r
+asAnswer (stopped s) = Ran (Stopped s)
+asAnswer neither = Ran Finished
+
+answer-back : (a : Answer) → asAnswer (named (answerNumber a)) ≡ a
+answer-back (Refused r) = ap asAnswer (named-refusal r)
+answer-back (Ran Finished) = refl
+answer-back (Ran (Stopped s)) = ap asAnswer (named-stop s)
+
+pub answer-is : {s : Whole} {r : Answered} {v g w : List ℕ} → WholeIs s r v g w → r .answer ≡ s .answer
+answer-is {s} {r} i = apart answerNumber (λ n. asAnswer (named n)) answer-back (r .answer) (s .answer) (i .answer)
+
+abbrev asReason : Named → Reason
+asReason (refused r) = reason.Refused r
+asReason (stopped s) = reason.Stopped s
+asReason neither = reason.Spent
+
+reason-back : (r : Reason) → asReason (named (reasonNumber r)) ≡ r
+reason-back (reason.Refused r) = ap asReason (named-refusal r)
+reason-back (reason.Stopped s) = ap asReason (named-stop s)
+reason-back reason.Spent = refl
+
+pub reason-is : {s : Run} {r : Ended} {v g w : List ℕ} → RunIs s r v g w → r .reason ≡ s .reason
+reason-is {s} {r} i = apart reasonNumber (λ n. asReason (named n)) reason-back (r .reason) (s .reason) (i .reason)
