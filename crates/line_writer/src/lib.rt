@@ -1,11 +1,13 @@
 // The listing writer as a struct: the lent line and the place of what comes next. `new`, `put` and `fill` are proved by
-// a walk of their MIR, by hand; the work is `listing::put_line`'s, on a slice and a number.
+// a walk of their MIR, by hand; the work is `listing::put_part`'s, on a slice and a number.
 use listing::Line;
-use listing::put_line;
-use text::blank;
+use listing::Part;
+use listing::put_part;
 ghost use mathlib.Core.Path.{_≡_};
-ghost use Rattle.text.specs.Text.{Room, Puts};
-ghost use Rattle.listing.specs.Listing.{lineOf, Lists};
+ghost use lib.ListN.{length};
+ghost use Rattle.text.specs.Text.{Room, padded};
+ghost use Rattle.listing.specs.Listing.{partText, lineOf, Lists};
+ghost use Rattle.line_writer.specs.Moved.{moved};
 
 pub struct LineWriter<'a> {
     pub line: &'a mut [u8],
@@ -19,21 +21,33 @@ fn new<'a>(line: &'a mut [u8]) -> LineWriter<'a>
     LineWriter { line: line, at: 0 }
 }
 
-// Writes the line of a word at the writer's place, and says where the next byte goes.
-fn put<'a>(w: LineWriter<'a>, address: u32, word: u32) -> usize
-    requires { ⌜ Room (now (w .line)) (w .at) (lineOf address word) ⌝ }
-    ensures { λ r. ⌜ Puts (now (w .entry .line)) (w .entry .at) (lineOf address word) (now (w .exit .0)) r ⌝ }
+// Writes a part of a line at the writer's place, and answers the writer moved on behind it.
+fn put<'a>(w: LineWriter<'a>, p: Part) -> LineWriter<'a>
+    requires { ⌜ Room (now (w .line)) (w .at) (partText (now (w .line)) (w .at) p) ⌝ }
+    ensures { λ r. ⌜ r ≡ moved (w .entry) p ⌝ }
 {
     let at = w.at;
-    put_line(&mut *w.line, at, address, word)
+    let next = put_part(&mut *w.line, at, p);
+    LineWriter {
+        line: w.line,
+        at: next,
+    }
 }
 
-// From a slice to a writer and back: its contract says nothing of a writer, so whoever calls it needs no walk by hand.
+// The parts one after the other, from the line's start to its end. The length is the place before the blanks. The
+// contract says nothing of a writer, so whoever calls it needs no walk by hand.
 fn fill(line: &mut [u8], address: u32, word: u32) -> usize
     requires { ⌜ Room (now line) 0 (lineOf address word) ⌝ }
-    ensures { λ r. ⌜ Puts (now (line .entry)) 0 (lineOf address word) (now (line .exit)) r ⌝ }
+    ensures { λ r. ⌜
+        (r ≡ length (lineOf address word))
+        × (now (line .exit) ≡ padded (length (now (line .entry))) (lineOf address word)) ⌝ }
 {
-    put(new(line), address, word)
+    let addressed = put(new(line), Part::Address(address));
+    let worded = put(addressed, Part::Word(word));
+    let texted = put(worded, Part::Text(word));
+    let length = texted.at;
+    put(texted, Part::Blanks);
+    length
 }
 
 // The line of a word and then blanks, in a lent line of 64 bytes; any other length is refused.
@@ -43,6 +57,5 @@ pub fn write_line(line: &mut [u8], address: u32, word: u32) -> Line
     if line.len() != 64 {
         return Line::Refused;
     }
-    blank(line);
     Line::Length(fill(line, address, word))
 }

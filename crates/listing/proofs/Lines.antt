@@ -1,12 +1,12 @@
 -- No line is longer than 64 bytes, and what writing one answers. Assumes nothing.
 use mathlib.Core.Path.{_≡_, refl, sym, ap, _∙_, subst}
 use mathlib.Core.Bool.{Bool, true, false}
-use mathlib.Core.List.{List, _++_}
+use mathlib.Core.List.{List, _++_, append-assoc}
 use Prim.Native.Nat.{ℕ, _+_, _≤_}
 use native.Mathlib.Omega.{arith}
 use borrow.Author.Tests.{leb-true, eq-eqb, ne-eqb}
 use lib.Dec.{eqb, leb}
-use lib.ListN.{length, replicate, length-append}
+use lib.ListN.{length, length-append}
 use Rattle.isa.specs.declared.Element.{Element}
 use Rattle.isa.specs.declared.Element.the-variants as element
 use Rattle.isa.specs.declared.Instr.{Instr}
@@ -18,23 +18,29 @@ use Rattle.shown.specs.declared.Form.the-variants.{Bare, Each, Whole}
 use Rattle.shown.specs.declared.Shown.{Shown}
 use Rattle.listing.specs.declared.Line.{Line}
 use Rattle.listing.specs.declared.Line.the-variants.{Refused, Length}
+use Rattle.listing.specs.declared.Part.the-variants.{Address, Word, Text}
 use Rattle.fields.specs.Fields.{pick}
 use Rattle.isa.specs.Numbers.{unreadNumber}
 use Rattle.reading.specs.Reading.{readOf}
-use Rattle.text.specs.Text.{bytes, Room, Puts}
+use Rattle.text.specs.Text.{bytes, Room, padded}
 use Rattle.text.specs.Numerals.{hex}
 use Rattle.text.proofs.Numerals.{decimal-length, hex-length}
-use Rattle.text.proofs.Puts.{puts-padded}
 use Rattle.operands.proofs.Lengths.{mostOf, operands-fit}
 use Rattle.names.specs.Names.{name}
 use Rattle.names.proofs.Names.{length-small}
 use Rattle.shown.specs.Shown.{shownOf}
-use Rattle.listing.specs.Listing.{formText, shownText, readText, textOf, lineOf, lineAnswer, Lists}
+use Rattle.listing.specs.Listing.{formText, shownText, readText, textOf, lineOf, partText, lineAnswer, Lists}
 
--- the text in its parts
+-- the text, written out
 pub line-text : (a w : ℕ) → hex a ++ bytes ": " ++ hex w ++ bytes " " ++ textOf w ≡ lineOf a w
 unfolding lineOf
 line-text a w = refl
+
+-- the parts joined are the line
+pub line-parts : (line : List ℕ) (at a w : ℕ)
+    → partText line at (Address a) ++ partText line at (Word w) ++ partText line at (Text w) ≡ lineOf a w
+line-parts line at a w =
+    ap (λ (l : List ℕ). l ++ textOf w) (sym (append-assoc (hex a ++ bytes ": ") (hex w) (bytes " "))) ∙ line-text a w
 
 -- ---- how long it may be
 
@@ -85,23 +91,15 @@ module _ (line : List ℕ) (a w : ℕ) where
   pub refused : (length line ≡ 64 → ⊥) → Lists line a w Refused line
   refused h = record { answered = rw (ne-eqb (length line) 64 h); line = rw (ne-eqb (length line) 64 h); number = rw (ne-eqb (length line) 64 h) }
 
-  module _ (h : length line ≡ 64) {blanks : List ℕ} (e : blanks ≡ replicate (length line) 32) where
-    sixty-four : blanks ≡ replicate 64 32
-    sixty-four = e ∙ ap (λ (n : ℕ). replicate n 32) h
+  module _ (h : length line ≡ 64) where
+    pub room : Room line 0 (lineOf a w)
+    room = record { fits = omega (arith, line-fits a w) }
 
-    pub room : Room blanks 0 (lineOf a w)
-    room = record { fits = omega (arith, line-fits a w, ap length sixty-four) }
-
-    pub listed : {after : List ℕ} {n : ℕ} → Puts blanks 0 (lineOf a w) after n → Lists line a w (Length n) after
-    listed {after} {n} p =
-        let q : Puts (replicate 64 32) 0 (lineOf a w) after n = subst (λ (l : List ℕ). Puts l 0 (lineOf a w) after n) sixty-four p in
-        let len : n ≡ length (lineOf a w) = omega (arith, p .place) in
+    pub listed : {after : List ℕ} {n : ℕ} → (n ≡ length (lineOf a w)) × (after ≡ padded (length line) (lineOf a w))
+        → Lists line a w (Length n) after
+    listed e =
         let t : eqb (length line) 64 ≡ true = eq-eqb (length line) 64 h in
-        record {
-          answered = rw (t, len);
-          line = rw t (puts-padded 64 (line-fits a w) q);
-          number = rw t;
-        }
+        record { answered = rw (t, e .0); line = rw t (e .1 ∙ ap (λ (n : ℕ). padded n (lineOf a w)) h); number = rw t }
 
 -- what was answered is the line's length, which a line holds
 pub answered-fits : (line : List ℕ) (a w : ℕ) {r : Line} {n : ℕ} → r ≡ lineAnswer line a w → r ≡ Length n → n ≤ 64

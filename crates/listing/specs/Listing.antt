@@ -1,9 +1,9 @@
 -- The line of a word, document 01's "The listing", as a list of bytes.
 use mathlib.Core.Path.{_≡_}
 use mathlib.Core.List.{List, [], _∷_, _++_}
-use Prim.Native.Nat.{ℕ, _+_}
+use Prim.Native.Nat.{ℕ, _-_}
 use lib.Dec.{eqb}
-use lib.ListN.{length}
+use lib.ListN.{length, replicate}
 use Rattle.isa.specs.declared.Width.{Width}
 use Rattle.isa.specs.declared.Width.the-variants.{B, H, W, D}
 use Rattle.isa.specs.declared.Read.{Read}
@@ -13,6 +13,8 @@ use Rattle.shown.specs.declared.Form.the-variants.{Bare, Each, Whole}
 use Rattle.shown.specs.declared.Shown.{Shown}
 use Rattle.listing.specs.declared.Line.{Line}
 use Rattle.listing.specs.declared.Line.the-variants.{Refused, Length}
+use Rattle.listing.specs.declared.Part.{Part}
+use Rattle.listing.specs.declared.Part.the-variants.{Address, Word, Text, Blanks}
 use Rattle.fields.specs.Fields.{pick}
 use Rattle.isa.specs.Numbers.{unreadNumber}
 use Rattle.reading.specs.Reading.{readOf}
@@ -49,6 +51,15 @@ textOf w = readText (readOf w)
 
 unfoldable pub lineOf : ℕ → ℕ → List ℕ
 lineOf address w = hex address ++ bytes ": " ++ hex w ++ bytes " " ++ textOf w
+
+-- ---- a line in its parts
+
+-- what a part puts from a place of a line on; blanks go up to the line's end
+abbrev pub partText : List ℕ → ℕ → Part → List ℕ
+partText line at (Address a) = hex a ++ bytes ": "
+partText line at (Word w) = hex w ++ bytes " "
+partText line at (Text w) = textOf w
+partText line at Blanks = replicate (length line - at) 32
 
 -- ---- what writing a line promises
 

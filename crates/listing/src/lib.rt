@@ -1,4 +1,4 @@
-// The listing: the line of a word, written from a place of a lent line on.
+// The listing: the line of a word in its parts, each written from a place of a lent line on.
 use isa::Read;
 use isa::Unread;
 use isa::Width;
@@ -8,6 +8,7 @@ use reading::read_word;
 use shown::Form;
 use shown::Shown;
 use shown::shown_of;
+use text::blank;
 use text::put_byte;
 use text::put_decimal;
 use text::put_hex;
@@ -17,13 +18,23 @@ ghost use mathlib.Core.List.{_++_};
 ghost use Rattle.isa.specs.Numbers.{readNumber, unreadNumber};
 ghost use Rattle.shown.specs.declared.Form.the-variants as form;
 ghost use Rattle.text.specs.Text.{bytes, Room, Puts};
-ghost use Rattle.text.specs.Numerals.{decimal};
+ghost use Rattle.text.specs.Numerals.{decimal, hex};
+ghost use Rattle.listing.specs.declared.Part.the-variants as part;
 ghost use Rattle.listing.specs.Listing as listing;
+ghost use Rattle.listing.specs.Listing.{partText};
 
 // What writing a line answers: 7, or the line's length.
 pub enum Line {
     Refused,
     Length(usize),
+}
+
+// A line's parts: the address with ": ", the word with a blank, the word's text, and blanks up to the line's end.
+pub enum Part {
+    Address(u32),
+    Word(u32),
+    Text(u32),
+    Blanks,
 }
 
 fn letter(df: Width) -> u8
@@ -108,14 +119,32 @@ fn put_read(line: &mut [u8], at: usize, read: Read) -> usize
     put_shown(line, at, shown_of(i))
 }
 
-// The writer on a slice and a number: the line of a word from a place on, and the place behind it.
-pub fn put_line(line: &mut [u8], at: usize, address: u32, word: u32) -> usize
-    requires { ⌜ Room (now line) at (listing.lineOf address word) ⌝ }
-    ensures { λ r. ⌜ Puts (now (line .entry)) at (listing.lineOf address word) (now (line .exit)) r ⌝ }
+// A number in eight hex digits, and what stands behind it.
+fn put_number(line: &mut [u8], at: usize, n: u32, behind: &[u8]) -> usize
+    requires { ⌜ Room (now line) at (hex n ++ now behind) ⌝ }
+    ensures { λ r. ⌜ Puts (now (line .entry)) at (hex n ++ now (behind .entry)) (now (line .exit)) r ⌝ }
 {
-    let colon_at = put_hex(line, at, address);
-    let word_at = put_text(line, colon_at, b": ");
-    let blank_at = put_hex(line, word_at, word);
-    let text_at = put_byte(line, blank_at, b' ');
-    put_read(line, text_at, read_word(word))
+    let next = put_hex(line, at, n);
+    put_text(line, next, behind)
+}
+
+fn put_blanks(line: &mut [u8], at: usize) -> usize
+    requires { ⌜ Room (now line) at (partText (now line) at part.Blanks) ⌝ }
+    ensures { λ r. ⌜ Puts (now (line .entry)) at (partText (now (line .entry)) at part.Blanks) (now (line .exit)) r ⌝ }
+{
+    blank(&mut line[at..]);
+    line.len()
+}
+
+// The writer on a slice and a number: a part of a line from a place on, and the place behind it.
+pub fn put_part(line: &mut [u8], at: usize, p: Part) -> usize
+    requires { ⌜ Room (now line) at (partText (now line) at p) ⌝ }
+    ensures { λ r. ⌜ Puts (now (line .entry)) at (partText (now (line .entry)) at p) (now (line .exit)) r ⌝ }
+{
+    match p {
+        Part::Address(address) => put_number(line, at, address, b": "),
+        Part::Word(word) => put_number(line, at, word, b" "),
+        Part::Text(word) => put_read(line, at, read_word(word)),
+        Part::Blanks => put_blanks(line, at),
+    }
 }

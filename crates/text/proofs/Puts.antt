@@ -1,12 +1,12 @@
 -- Texts put one after the other are one text put, and room for both is room for each. Assumes nothing.
 use mathlib.Core.Path.{_≡_, refl, sym, ap, _∙_, subst}
-use mathlib.Core.List.{List, [], _∷_, _++_}
-use Prim.Native.Nat.{ℕ, zero, suc, _+_, _-_, _≤_}
+use mathlib.Core.List.{List, [], _∷_, _++_, append-nil}
+use Prim.Native.Nat.{ℕ, suc, _+_}
 use native.Mathlib.Nat.{add-zero, zero-add, add-suc, suc-add, add-assoc}
 use native.Mathlib.Omega.{arith}
-use lib.ListN.{length, drop, replicate, length-append, length-replicate}
-use lib.Seq.{sets, length-sets, sets-eq}
-use Rattle.text.specs.Text.{Room, Puts, padded}
+use lib.ListN.{length, drop, length-append}
+use lib.Seq.{sets, length-sets, sets-eq, drop-length}
+use Rattle.text.specs.Text.{Room, Puts}
 
 sets-append : (l : List ℕ) (k : ℕ) (s t : List ℕ) → sets l k (s ++ t) ≡ sets (sets l k s) (k + length s) t
 sets-append l k [] t = ap (λ (n : ℕ). sets l n t) (sym (add-zero k))
@@ -39,13 +39,8 @@ room-right {l} {m} {s} {t} {k} {p} f h =
     let q : p ≡ k + length s = f .place in
     record { fits = omega (arith, length-append s t) }
 
-drop-replicate : (n m x : ℕ) → drop n (replicate m x) ≡ replicate (m - n) x
-drop-replicate zero m x = let e : m - 0 ≡ m = omega arith in rw e
-drop-replicate (suc n) zero x = let e : 0 - suc n ≡ 0 = omega arith in rw e
-drop-replicate (suc n) (suc m) x = let e : suc m - suc n ≡ m - n = omega arith in rw e (drop-replicate n m x)
-
--- a text put at the start of a blank line
-pub puts-padded : (n : ℕ) {s m : List ℕ} {p : ℕ} → length s ≤ n → Puts (replicate n 32) 0 s m p → m ≡ padded n s
-puts-padded n {s} {m} {p} h f =
-    let room : 0 + length s ≤ length {A = ℕ} (replicate n 32) = rw length-replicate (omega arith) in
-    f .line ∙ sets-eq s (replicate n 32) 0 room ∙ ap (λ (x : List ℕ). s ++ x) (ap (λ (k : ℕ). drop k (replicate n 32)) (zero-add (length s)) ∙ drop-replicate (length s) n 32)
+-- a text as long as the line
+pub puts-whole : {l t m : List ℕ} {p : ℕ} → length t ≡ length l → Puts l 0 t m p → m ≡ t
+puts-whole {l} {t} {m} {p} e f =
+    f .line ∙ sets-eq t l 0 (omega arith) ∙ ap (λ (n : ℕ). t ++ drop n l) (zero-add (length t) ∙ e)
+    ∙ ap (λ (s : List ℕ). t ++ s) (drop-length l) ∙ append-nil t
