@@ -104,6 +104,10 @@ target-four : (pc offset : ℕ) → pc % 4 ≡ 0 → target pc offset % 4 ≡ 0
 unfolding target
 target-four pc offset h = words-on (pc + 4) (signed 16 offset) (omega arith)
 
+marked-four : (taken? : Bool) (pc offset : ℕ) → pc % 4 ≡ 0 → targetBad (marked taken? (target pc offset)) ≡ false
+marked-four true pc offset h = rw (eq-eqb _ _ (target-four pc offset h))
+marked-four false pc offset h = refl
+
 pc-four : (k : Mark) (pc : ℕ) → pc % 4 ≡ 0 → targetBad k ≡ false → pcAfter k pc % 4 ≡ 0
 pc-four Clear pc h t = omega arith
 pc-four NotTaken pc h t = omega arith
@@ -111,15 +115,15 @@ pc-four (Taken x) pc h t = eqb-true _ _ (not-false _ t)
 
 -- plans
 
--- what a plan puts into the control block is within the limits, at a program counter that is
-abbrev Within : ℕ → Plan → Type 0
+-- what a plan puts into the control block: MSACSR's bits that exist, and the mark of a branch at the program counter
+abbrev pub Within : ℕ → Plan → Type 0
 Within pc (plan.Stop s) = Unit {0}
 Within pc plan.Nothing = Unit {0}
 Within pc (plan.Vector r v) = Unit {0}
 Within pc (plan.General r x) = Unit {0}
 Within pc (plan.Store a v) = Unit {0}
 Within pc (plan.Csr x) = masked x ≡ x
-Within pc (plan.Branch k) = pc % 4 ≡ 0 → targetBad k ≡ false
+Within pc (plan.Branch k) = (taken? : Bool) × (offset : ℕ) × (k ≡ marked taken? (target pc offset))
 
 module _ (e : Env) (m : Machine) where
   abbrev Kept : Plan → Type 0
@@ -139,10 +143,6 @@ module _ (e : Env) (m : Machine) where
   control-within true true x = tt
   control-within true false x = masked-twice x
   control-within false trap? x = tt
-
-  branch-within : (taken? : Bool) (offset : ℕ) → Kept (plan.Branch (marked taken? (target (m .ctl .pc) offset)))
-  branch-within true offset h = rw (eq-eqb _ _ (target-four (m .ctl .pc) offset h))
-  branch-within false offset h = refl
 
   executed-within : (i : Instr) → Kept (executed e m i)
   executed-within (instr.Three o df wd ws wt) = tt
@@ -165,15 +165,15 @@ module _ (e : Env) (m : Machine) where
   executed-within (instr.Memory St df wd offset rs) =
       let a : ℕ = address df offset (generalAt (m .gen) rs) in
       stored-within (spotOf (e .bases) (length (e .table)) (length (m .work)) a) a (registerAt (m .vec) wd)
-  executed-within (instr.Branch o df wt offset) = branch-within (takenOf o df (registerAt (m .vec) wt)) offset
-  executed-within (instr.BranchV o wt offset) = branch-within (takenVOf o (registerAt (m .vec) wt)) offset
+  executed-within (instr.Branch o df wt offset) = (takenOf o df (registerAt (m .vec) wt), offset, refl)
+  executed-within (instr.BranchV o wt offset) = (takenVOf o (registerAt (m .vec) wt), offset, refl)
   executed-within (instr.Scaled o rd rs rt sa) = tt
 
   unless-within : (s : Early) (q : Plan) → Kept q → Kept (unless s q)
   unless-within Go q h = h
   unless-within (Stops s) q h = tt
 
-  planned-within : (i : Instr) → Within (m .ctl .pc) (planOf e m i)
+  pub planned-within : (i : Instr) → Within (m .ctl .pc) (planOf e m i)
   unfolding planOf
   planned-within i = unless-within (early (kindOf i) (m .ctl .mark) (m .ctl .on)) (executed e m i) (executed-within i)
 
@@ -240,7 +240,9 @@ module _ (p : List ℕ) (e : Env) (m : Machine) (ok : refusal p e m ≡ Accepted
       like _ _ _ _ refl refl (length-replaced (m .work) (a - e .bases .work) (bytesOf 16 (value v)) (omega (arith, length-bytesOf 16 (value v))))
       (forward (m .gen) Clear (m .ctl .csr) refl (λ z. refl) (λ x. x))
   applied-accepted (plan.Csr x) h i = like _ _ _ _ refl refl refl (forward (m .gen) Clear x refl (λ z. refl) (λ y. i))
-  applied-accepted (plan.Branch k) h i = like _ _ _ _ refl refl refl (forward (m .gen) k (m .ctl .csr) refl i (λ x. x))
+  applied-accepted (plan.Branch k) h (taken?, offset, same) =
+      like _ _ _ _ refl refl refl
+      (forward (m .gen) k (m .ctl .csr) refl (λ z. rw same (marked-four taken? (m .ctl .pc) offset z)) (λ x. x))
 
 pub stays-accepted : StaysAccepted
 stays-accepted p e m ok done =

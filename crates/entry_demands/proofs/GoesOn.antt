@@ -1,0 +1,176 @@
+-- Two calls as one. The first leaves the bytes of the block that it ended with, or with budget 0 every byte as it was;
+-- they read as that block, and from there the run goes on (`goes-on`). Assumes nothing.
+use mathlib.Core.Path.{_≡_, refl, sym, ap, subst, _∙_}
+use mathlib.Core.Bool.{Bool, true, false, cond}
+use mathlib.Core.List.{List}
+use Prim.Native.Nat.{ℕ, zero, suc, _+_, _*_, _%_, _^_, _<_}
+use native.Mathlib.Nat.{zero-add}
+use native.Mathlib.Omega.{arith}
+use borrow.Author.Tests.{eqb-true, eq-eqb, lt-ltb}
+use lib.Dec.{eqb, ltb}
+use lib.ListN.{length}
+use Rattle.isa.specs.declared.Refusal.{Refusal}
+use Rattle.isa.specs.declared.Refusal.the-variants.{Registers, Program, WindowSize, SharedAddress, State}
+use Rattle.isa.specs.declared.Stop.{Stop}
+use Rattle.isa.specs.declared.Stop.the-variants as stop
+use Rattle.isa.specs.declared.Unread.{Unread}
+use Rattle.isa.specs.declared.Unread.the-variants.{Unassigned, LeftOut, Other}
+use Rattle.isa.specs.Numbers.{unreadNumber, refusalNumber, stopNumber}
+use Rattle.memory.specs.Bytes.{AreBytes}
+use Rattle.state.specs.declared.control.Control.{Control}
+use Rattle.state.specs.declared.setup.Setup.{Setup}
+use Rattle.state.specs.declared.setup.Setup.the-variants.{Accepted, Refused}
+use Rattle.state.specs.Machine.{Env, Machine}
+use Rattle.state.specs.Setup.{refusal}
+use Rattle.machine.specs.declared.run.Reason.{Reason}
+use Rattle.machine.specs.declared.run.Reason.the-variants as reason
+use Rattle.machine.specs.Numbers.{reasonNumber}
+use Rattle.machine.specs.Run.{Run, adding, admitted, runs, wholeRun}
+use Rattle.machine.proofs.RunLaws.{same-machine}
+use Rattle.entry.specs.Block.{decoded, encoded, written}
+use Rattle.entry.specs.Entry.{RunsTo}
+use Rattle.entry.specs.Layout.{InRange, inLayout, orFive}
+use Rattle.entry.proofs.LayoutLaws.{outside-refused, round-trip}
+use Rattle.demands.specs.Demand1.{Steps, none, more, Why, spent, stopped, Ends}
+use Rattle.demands.proofs.Demand1.{accepted-run}
+use Rattle.demands.proofs.GoesOn.{goes-on}
+use Rattle.demands.proofs.Kept.{steps-accepted}
+use Rattle.entry_demands.specs.GoesOn.{Lent, machineOf, Call, GoesOnCalled}
+use Rattle.entry_demands.proofs.Range.{decoded-in-range, run-in-range}
+
+-- no other reason has the number 20
+
+unread-few : (u : Unread) → unreadNumber u < 20
+unread-few Unassigned = omega arith
+unread-few LeftOut = omega arith
+unread-few Other = omega arith
+
+stop-few : (s : Stop) → stopNumber s < 20
+stop-few stop.NoWord = omega arith
+stop-few (stop.Unread u) = unread-few u
+stop-few stop.BranchInSlot = omega arith
+stop-few stop.SwitchedOff = omega arith
+stop-few stop.NoWindow = omega arith
+stop-few stop.ReadOnly = omega arith
+stop-few stop.Trap = omega arith
+
+refusal-few : (r : Refusal) → refusalNumber r < 20
+refusal-few Registers = omega arith
+refusal-few Program = omega arith
+refusal-few WindowSize = omega arith
+refusal-few SharedAddress = omega arith
+refusal-few State = omega arith
+
+twenty : (r : Reason) (count : ℕ) → (reasonNumber r + 2 ^ 32 * count) % 2 ^ 32 ≡ 20 → r ≡ reason.Spent
+twenty (reason.Refused x) count h = absurd (omega (arith, refusal-few x))
+twenty (reason.Stopped s) count h = absurd (omega (arith, stop-few s))
+twenty reason.Spent count h = refl
+
+-- and no refused run has it
+admits : (q : Setup) (r : Run) (m : Machine) → admitted q r m .reason ≡ reason.Spent → q ≡ Accepted
+admits Accepted r m h = refl
+admits (Refused x) r m h = let z : _≡_ {A = ℕ} 0 1 = cc in absurd (omega arith)
+
+-- a block that is accepted has 24 bytes
+not-five : (q : Setup) → orFive q ≡ Accepted → ⊥
+not-five Accepted h = let z : _≡_ {A = ℕ} 0 1 = cc in omega arith
+not-five (Refused x) h = let z : _≡_ {A = ℕ} 0 1 = cc in omega arith
+
+long : (p : List ℕ) (e : Env) (x : Lent) → refusal p e (machineOf x) ≡ Accepted → length (x .control) ≡ 24
+long p e x ok = eqb-true (length (x .control)) 24 (go (eqb (length (x .control)) 24) refl)
+  where
+    go : (t : Bool) → eqb (length (x .control)) 24 ≡ t → t ≡ true
+    go true h = refl
+    go false h =
+        let out : inLayout (x .control) ≡ false = rw h in
+        let five = outside-refused p e (x .vec) (x .gen) (x .work) (x .control) (decoded (x .control)) out in
+        absurd (not-five (refusal p e (machineOf x)) (sym five ∙ ok))
+
+-- the bytes of a block after a call of this count that ends with c
+abbrev settled : ℕ → Control → List ℕ → List ℕ
+settled count c b = cond (ltb 0 count) (written c b) b
+
+settled-some : (b : List ℕ) (n : ℕ) (c : Control) → length b ≡ 24 → 0 < n → settled n c b ≡ encoded c
+unfolding written
+settled-some b n c l h = rw (lt-ltb 0 n h, eq-eqb (length b) 24 l)
+
+-- they read as c
+settled-back : (b : List ℕ) (n : ℕ) (c : Control) → length b ≡ 24 → InRange c → (n ≡ 0 → c ≡ decoded b)
+    → decoded (settled n c b) ≡ c
+settled-back b zero c l i h = sym (h refl)
+settled-back b (suc n) c l i h = ap decoded (settled-some b (suc n) c l (omega arith)) ∙ round-trip c i
+
+-- after two calls they are as after one
+settled-twice : (b b′ : List ℕ) (n k : ℕ) (c d : Control) → length b ≡ 24 → length b′ ≡ 24 → b′ ≡ settled n c b
+    → (k ≡ 0 → d ≡ c) → settled (n + k) d b ≡ settled k d b′
+settled-twice b b′ zero k c d l l′ e h = ap (λ x. settled x d b) (zero-add k) ∙ ap (settled k d) (sym e)
+settled-twice b b′ (suc n) zero c d l l′ e h =
+    let was : b′ ≡ encoded c = e ∙ settled-some b (suc n) c l (omega arith) in
+    settled-some b (suc n + 0) d l (omega arith) ∙ ap encoded (h refl) ∙ sym was
+settled-twice b b′ (suc n) (suc k) c d l l′ e h =
+    settled-some b (suc n + suc k) d l (omega arith) ∙ sym (settled-some b′ (suc k) d l′ (omega arith))
+
+-- an accepted run with count 0 keeps the block; one that ends with 20 has its budget for its count
+no-steps : {p : List ℕ} {e : Env} {n : ℕ} {m m′ : Machine} → Steps p e n m m′ → n ≡ 0 → m′ .ctl ≡ m .ctl
+no-steps none h = refl
+no-steps (more s t) h = absurd (omega arith)
+
+spent-count : {p : List ℕ} {e : Env} {budget count : ℕ} {m : Machine} {r : Reason} → Why p e budget count m r
+    → r ≡ reason.Spent → count ≡ budget
+spent-count (spent h) e = h
+spent-count (stopped s h k) e = let z : _≡_ {A = ℕ} 0 1 = cc in absurd (omega arith)
+
+-- what the first call has left
+record Left (p : List ℕ) (e : Env) (n : ℕ) (x y : Lent) : Type 0 where
+  accepted : refusal p e (machineOf x) ≡ Accepted
+  ends : wholeRun p e n (machineOf x) .reason ≡ reason.Spent
+  control : y .control ≡ settled n (wholeRun p e n (machineOf x) .after .ctl) (x .control)
+  machine : machineOf y ≡ wholeRun p e n (machineOf x) .after
+
+left : (p : List ℕ) (e : Env) (n a : ℕ) (x y : Lent) → AreBytes (x .control) → Call p e n x a y → a % 2 ^ 32 ≡ 20
+    → Left p e n x y
+left p e n a x y bytes i h =
+    let m : Machine = machineOf x in
+    let r : Run = wholeRun p e n m in
+    let c : Control = r .after .ctl in
+    let ends : r .reason ≡ reason.Spent = twenty (r .reason) (r .count) (rw (i .answer) at h) in
+    let ok : refusal p e m ≡ Accepted = admits (refusal p e m) (runs p e n m) m ends in
+    let run : Ends p e n m r = accepted-run p e n m ok in
+    let all : r .count ≡ n = spent-count (run .why) ends in
+    let control : y .control ≡ settled n c (x .control) = i .control ∙ ap (λ q. settled q c (x .control)) all in
+    let range : InRange c = run-in-range p e n m (decoded-in-range (x .control) bytes) in
+    let reads = settled-back (x .control) n c (long p e x ok) range (λ z. no-steps (run .steps) (all ∙ z)) in
+    let same = same-machine (r .after) (y .vec) (y .gen) (y .work) (decoded (y .control)) in
+    record {
+      accepted = ok;
+      ends = ends;
+      control = control;
+      machine = sym (same (i .vec) (i .gen) (i .work) (ap decoded control ∙ reads));
+    }
+
+-- a call for the run s
+abbrev Leaves : Run → Lent → ℕ → Lent → Type 0
+Leaves s x r y = RunsTo s r (y .vec) (y .gen) (y .work) (x .control) (y .control)
+
+-- the second call goes on from there, and so does the one for both
+pub goes-on-called : GoesOnCalled
+goes-on-called p e n k a b c x y z z′ bytes i h j l =
+    let first : Left p e n x y = left p e n a x y bytes i h in
+    let steps = accepted-run p e n (machineOf x) (first .accepted) .steps in
+    let m : Machine = wholeRun p e n (machineOf x) .after in
+    let s : Run = wholeRun p e k m in
+    let ok : refusal p e m ≡ Accepted = steps-accepted p e _ (machineOf x) m steps (first .accepted) in
+    let on = goes-on p e n k (machineOf x) (first .accepted) (first .ends) in
+    let second : Leaves s y b z = subst (λ q. Leaves (wholeRun p e k q) y b z) (first .machine) j in
+    let both : Leaves (adding n s) x c z′ = subst (λ q. Leaves q x c z′) on l in
+    let sx = long p e x (first .accepted) in
+    let sy = long p e y (ap (refusal p e) (first .machine) ∙ ok) in
+    let kept = no-steps (accepted-run p e k m ok .steps) in
+    let d : Control = s .after .ctl in
+    let twice = settled-twice (x .control) (y .control) n (s .count) (m .ctl) d sx sy (first .control) kept in
+    let vec : z′ .vec ≡ z .vec = both .vec ∙ sym (second .vec) in
+    let gen : z′ .gen ≡ z .gen = both .gen ∙ sym (second .gen) in
+    let work : z′ .work ≡ z .work = both .work ∙ sym (second .work) in
+    let control : z′ .control ≡ z .control = both .control ∙ twice ∙ sym (second .control) in
+    let same : z′ ≡ z = λ t. record { vec = vec t; gen = gen t; work = work t; control = control t } in
+    (omega (arith, both .answer, second .answer), same)

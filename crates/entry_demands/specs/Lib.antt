@@ -1,0 +1,2 @@
+pub mod GoesOn
+pub mod Range
