@@ -20,7 +20,7 @@ use Rattle.listing.specs.declared.Line.{Line}
 use Rattle.listing.specs.declared.Line.the-variants.{Refused, Length}
 use Rattle.listing.specs.declared.Part.the-variants.{Address, Word, Text}
 use Rattle.fields.specs.Fields.{pick}
-use Rattle.isa.specs.Numbers.{unreadNumber}
+use Rattle.isa.specs.Numbers.{number, values, unreadNumber}
 use Rattle.reading.specs.Reading.{readOf}
 use Rattle.text.specs.Text.{bytes, Room, padded}
 use Rattle.text.specs.Numerals.{hex}
@@ -29,7 +29,7 @@ use Rattle.operands.proofs.Lengths.{mostOf, operands-fit}
 use Rattle.names.specs.Names.{name}
 use Rattle.names.proofs.Names.{length-small}
 use Rattle.shown.specs.Shown.{shownOf}
-use Rattle.listing.specs.Listing.{formText, shownText, readText, textOf, lineOf, partText, lineAnswer, Lists}
+use Rattle.listing.specs.Listing.{formText, shownText, readText, textOf, lineOf, partText, lineSaid, lineAnswer, Lists}
 
 -- the text, written out
 pub line-text : (a w : ℕ) → hex a ++ bytes ": " ++ hex w ++ bytes " " ++ textOf w ≡ lineOf a w
@@ -89,7 +89,7 @@ line-fits a w =
 
 module _ (line : List ℕ) (a w : ℕ) where
   pub refused : (length line ≡ 64 → ⊥) → Lists line a w Refused line
-  refused h = record { answered = rw (ne-eqb (length line) 64 h); line = rw (ne-eqb (length line) 64 h); number = rw (ne-eqb (length line) 64 h) }
+  refused h = record { said = rw (ne-eqb (length line) 64 h); line = rw (ne-eqb (length line) 64 h) }
 
   module _ (h : length line ≡ 64) where
     pub room : Room line 0 (lineOf a w)
@@ -99,12 +99,12 @@ module _ (line : List ℕ) (a w : ℕ) where
         → Lists line a w (Length n) after
     listed e =
         let t : eqb (length line) 64 ≡ true = eq-eqb (length line) 64 h in
-        record { answered = rw (t, e .0); line = rw t (e .1 ∙ ap (λ (n : ℕ). padded n (lineOf a w)) h); number = rw t }
+        record { said = rw (t, e .0); line = rw t (e .1 ∙ ap (λ (n : ℕ). padded n (lineOf a w)) h) }
 
 -- what was answered is the line's length, which a line holds
-pub answered-fits : (line : List ℕ) (a w : ℕ) {r : Line} {n : ℕ} → r ≡ lineAnswer line a w → r ≡ Length n → n ≤ 64
-answered-fits line a w {r} {n} e f = by (eqb (length line) 64) (sym f ∙ e)
+pub answered-fits : (line : List ℕ) (a w : ℕ) {r : Line} {n : ℕ} → lineSaid r ≡ lineAnswer line a w → r ≡ Length n → n ≤ 64
+answered-fits line a w {r} {n} e f = by (eqb (length line) 64) (sym (ap lineSaid f) ∙ e)
   where
-    by : (b : Bool) → Length n ≡ pick b (Length (length (lineOf a w))) Refused → n ≤ 64
+    by : (b : Bool) → values n ≡ pick b (values (length (lineOf a w))) (number 7) → n ≤ 64
     by true g = let h : n ≡ length (lineOf a w) = cc in omega (arith, line-fits a w)
     by false g = absurd (let z : _≡_ {A = ℕ} 0 1 = cc in omega arith)

@@ -16,7 +16,7 @@ use Rattle.listing.specs.declared.Line.the-variants.{Refused, Length}
 use Rattle.listing.specs.declared.Part.{Part}
 use Rattle.listing.specs.declared.Part.the-variants.{Address, Word, Text, Blanks}
 use Rattle.fields.specs.Fields.{pick}
-use Rattle.isa.specs.Numbers.{unreadNumber}
+use Rattle.isa.specs.Numbers.{Said, number, values, unreadNumber}
 use Rattle.reading.specs.Reading.{readOf}
 use Rattle.text.specs.Text.{bytes, padded}
 use Rattle.text.specs.Numerals.{decimal, hex}
@@ -63,19 +63,17 @@ partText line at Blanks = replicate (length line - at) 32
 
 -- ---- what writing a line promises
 
--- 0 where the line was written
-abbrev pub lineNumber : Line → ℕ
-lineNumber Refused = 7
-lineNumber (Length n) = 0
+abbrev pub lineSaid : Line → Said ℕ
+lineSaid Refused = number 7
+lineSaid (Length n) = values n
 
 -- a line of 64 bytes takes the text and then blanks; any other is refused, and stays as it is
-abbrev pub lineAnswer : List ℕ → ℕ → ℕ → Line
-lineAnswer line address w = pick (eqb (length line) 64) (Length (length (lineOf address w))) Refused
+abbrev pub lineAnswer : List ℕ → ℕ → ℕ → Said ℕ
+lineAnswer line address w = pick (eqb (length line) 64) (values (length (lineOf address w))) (number 7)
 
 abbrev pub lineAfter : List ℕ → ℕ → ℕ → List ℕ
 lineAfter line address w = pick (eqb (length line) 64) (padded 64 (lineOf address w)) line
 
 pub record Lists (before : List ℕ) (address w : ℕ) (answer : Line) (after : List ℕ) : Type 0 where
-  pub answered : answer ≡ lineAnswer before address w
+  pub said : lineSaid answer ≡ lineAnswer before address w
   pub line : after ≡ lineAfter before address w
-  pub number : lineNumber answer ≡ pick (eqb (length before) 64) 0 7

@@ -15,7 +15,7 @@ use text::put_hex;
 use text::put_text;
 ghost use mathlib.Core.Path.{_≡_};
 ghost use mathlib.Core.List.{_++_};
-ghost use Rattle.isa.specs.Numbers.{readNumber, unreadNumber};
+ghost use Rattle.isa.specs.Numbers.{numberIn, readSaid, unreadNumber};
 ghost use Rattle.shown.specs.declared.Form.the-variants as form;
 ghost use Rattle.text.specs.Text.{bytes, Room, Puts};
 ghost use Rattle.text.specs.Numerals.{decimal, hex};
@@ -83,7 +83,7 @@ fn put_shown(line: &mut [u8], at: usize, s: Shown) -> usize
 }
 
 fn read_number(r: Read) -> u32
-    ensures { λ n. ⌜ n ≡ readNumber r ⌝ }
+    ensures { λ n. ⌜ n ≡ numberIn (readSaid r) ⌝ }
 {
     match r {
         Read::Not(u) => unread_number(u),

@@ -1,6 +1,7 @@
 -- `listing::put_part` meets its contract. Assumes nothing.
 use Prim.Native.Nat.{ℕ}
 use Rattle.listing.specs.declared.Part.{Part}
+use Rattle.reading.proofs.Said.{read-is}
 use Rattle.listing.specs.Listing.{readText, partText}
 use Rattle.text.proofs.Puts.{puts-as, room-as}
 use Rattle.text.specs.Text.{Room, Puts}
@@ -25,7 +26,7 @@ put-part-spec =
     (λ c. search needs) (λ c. search needs)
     (λ c κs. has (c .before .before .before .p2 .given .1) (c .before .before .before .before .before .before .pre))
     (λ c. search needs) (λ c κs. search needs)
-    (λ c κs. room-as (ap readText (sym (c .read-word .ensures .answer)))
+    (λ c κs. room-as (ap readText (sym (read-is (c .read-word .ensures))))
     (has (c .before .before .before .p3 .given .1) (c .before .before .before .before .before .before .pre)))
     (λ c. search needs)
     (λ c κs. has (c .before .enum-told .given .1) (c .before .before .before .before .pre))
@@ -36,7 +37,7 @@ put-part-spec =
     (c .before .before .put-number2 .ensures))
     (λ c. search needs)
     (λ c. did (c .before .before .before .before .before .before .p3 .given .1)
-    (puts-as (ap readText (c .before .before .before .read-word .ensures .answer))
+    (puts-as (ap readText (read-is (c .before .before .before .read-word .ensures)))
     (c .before .before .put-read .ensures)))
     (λ c. search needs)
     (λ c. did (c .before .before .before .before .enum-told .given .1) (c .before .before .put-blanks .ensures)))

@@ -1,6 +1,6 @@
 -- `listing::put_read` meets its contract. Assumes nothing.
 use Prim.Native.Nat.{ℕ}
-use Rattle.isa.specs.Numbers.{readNumber}
+use Rattle.isa.specs.Numbers.{numberIn, readSaid}
 use Rattle.isa.specs.declared.Instr.{Instr}
 use Rattle.isa.specs.declared.Read.the-variants as read
 use Rattle.isa.specs.declared.Read.{Read}
@@ -17,7 +17,7 @@ use mathlib.Core.Path.{_≡_, sym}
 use Rattle.listing.proofs.put_read.Statement.{statement}
 use Rattle.listing.proofs.put_read.Tie as tie
 
-reason : (r : Read) {u : Unread} {n : ℕ} → r ≡ read.Not u → n ≡ readNumber r → bytes "; " ++ decimal n ≡ listing.readText r
+reason : (r : Read) {u : Unread} {n : ℕ} → r ≡ read.Not u → n ≡ numberIn (readSaid r) → bytes "; " ++ decimal n ≡ listing.readText r
 reason r e h = rw (h, e)
 
 instruction : (r : Read) {i : Instr} {s : Shown} → r ≡ read.Instr i → s ≡ shownOf i → listing.shownText s ≡ listing.readText r
