@@ -33,34 +33,47 @@ whole-number : (q : Setup) (s : Result) (m : Machine) → orNumber q (outcomeNum
 whole-number Accepted s m = refl
 whole-number (Refused r) s m = refl
 
-pub step-answers : StepAnswers
-step-answers p e m r v g w i =
-    rw (whole-number (setup.refusal p e m) (stepOf p e m) m ∙ sym (i .answer)) at
+-- the definition's step
+pub step-first : (p : List ℕ) (e : Env) (m : Machine) → First (limits p e m ++ stops p e m) (answerNumber (wholeStep p e m .answer))
+step-first p e m =
+    rw (whole-number (setup.refusal p e m) (stepOf p e m) m) at
     (limits-first p e m (stops p e m) (outcomeNumber (stepOf p e m .outcome)) (first-reason p e m))
 
--- no reason of a run is 0
-refusal-some : (r : Refusal) → Not (refusalNumber r ≡ 0)
-refusal-some refusal.Registers h = omega arith
-refusal-some refusal.Program h = omega arith
-refusal-some refusal.WindowSize h = omega arith
-refusal-some refusal.SharedAddress h = omega arith
-refusal-some refusal.State h = omega arith
+pub step-answers : StepAnswers
+step-answers p e m r v g w i = rw (i .answer) (step-first p e m)
 
-stop-some : (s : Stop) → Not (stopNumber s ≡ 0)
-stop-some stop.NoWord h = omega arith
-stop-some (stop.Unread Unassigned) h = omega arith
-stop-some (stop.Unread LeftOut) h = omega arith
-stop-some (stop.Unread Other) h = omega arith
-stop-some stop.BranchInSlot h = omega arith
-stop-some stop.SwitchedOff h = omega arith
-stop-some stop.NoWindow h = omega arith
-stop-some stop.ReadOnly h = omega arith
-stop-some stop.Trap h = omega arith
+-- the numbers of refusals and stops
+refusal-between : (r : Refusal) → (0 < refusalNumber r) × (refusalNumber r < 20)
+refusal-between refusal.Registers = (omega arith, omega arith)
+refusal-between refusal.Program = (omega arith, omega arith)
+refusal-between refusal.WindowSize = (omega arith, omega arith)
+refusal-between refusal.SharedAddress = (omega arith, omega arith)
+refusal-between refusal.State = (omega arith, omega arith)
 
-reason-some : (r : Reason) → Not (reasonNumber r ≡ 0)
-reason-some (reason.Refused r) h = refusal-some r h
-reason-some (reason.Stopped s) h = stop-some s h
-reason-some reason.Spent h = omega arith
+stop-between : (s : Stop) → (0 < stopNumber s) × (stopNumber s < 20)
+stop-between stop.NoWord = (omega arith, omega arith)
+stop-between (stop.Unread Unassigned) = (omega arith, omega arith)
+stop-between (stop.Unread LeftOut) = (omega arith, omega arith)
+stop-between (stop.Unread Other) = (omega arith, omega arith)
+stop-between stop.BranchInSlot = (omega arith, omega arith)
+stop-between stop.SwitchedOff = (omega arith, omega arith)
+stop-between stop.NoWindow = (omega arith, omega arith)
+stop-between stop.ReadOnly = (omega arith, omega arith)
+stop-between stop.Trap = (omega arith, omega arith)
+
+-- a reason is 20 or below it, and never 0
+pub data Reasoned : Reason → Type 0 where
+  spends : Reasoned reason.Spent
+  fewer : {r : Reason} → 0 < reasonNumber r → reasonNumber r < 20 → Reasoned r
+
+pub reasoned : (r : Reason) → Reasoned r
+reasoned (reason.Refused r) = fewer (refusal-between r .0) (refusal-between r .1)
+reasoned (reason.Stopped s) = fewer (stop-between s .0) (stop-between s .1)
+reasoned reason.Spent = spends
+
+reason-some : (r : Reason) → Reasoned r → Not (reasonNumber r ≡ 0)
+reason-some r spends h = omega arith
+reason-some r (fewer l u) h = omega arith
 
 module _ (p : List ℕ) (e : Env) (budget : ℕ) where
   -- why it ended, as a row
@@ -74,13 +87,13 @@ module _ (p : List ℕ) (e : Env) (budget : ℕ) where
   run-number (Refused x) r m = refl
 
   -- the definition's run
-  run-first : (m : Machine) → Answers p e budget m (reasonNumber (wholeRun p e budget m .reason)) (wholeRun p e budget m .count) (wholeRun p e budget m .after)
+  pub run-first : (m : Machine) → Answers p e budget m (reasonNumber (wholeRun p e budget m .reason)) (wholeRun p e budget m .count) (wholeRun p e budget m .after)
   run-first m =
       record {
         number =
             rw (run-number (setup.refusal p e m) (runs p e budget m) m) at
             (limits-first p e m _ (reasonNumber (runs p e budget m .reason)) (λ a. accepted-first a));
-        some = reason-some (wholeRun p e budget m .reason);
+        some = reason-some (wholeRun p e budget m .reason) (reasoned (wholeRun p e budget m .reason));
       }
     where
       accepted-first : setup.refusal p e m ≡ Accepted

@@ -9,13 +9,6 @@ use native.Mathlib.Omega.{arith}
 use borrow.Author.Tests.{eqb-true, eq-eqb, lt-ltb}
 use lib.Dec.{eqb, ltb}
 use lib.ListN.{length}
-use Rattle.isa.specs.declared.Refusal.{Refusal}
-use Rattle.isa.specs.declared.Refusal.the-variants.{Registers, Program, WindowSize, SharedAddress, State}
-use Rattle.isa.specs.declared.Stop.{Stop}
-use Rattle.isa.specs.declared.Stop.the-variants as stop
-use Rattle.isa.specs.declared.Unread.{Unread}
-use Rattle.isa.specs.declared.Unread.the-variants.{Unassigned, LeftOut, Other}
-use Rattle.isa.specs.Numbers.{unreadNumber, refusalNumber, stopNumber}
 use Rattle.memory.specs.Bytes.{AreBytes}
 use Rattle.state.specs.declared.control.Control.{Control}
 use Rattle.state.specs.declared.setup.Setup.{Setup}
@@ -32,39 +25,18 @@ use Rattle.entry.specs.Entry.{RunsTo}
 use Rattle.entry.specs.Layout.{InRange, inLayout, orFive}
 use Rattle.entry.proofs.LayoutLaws.{outside-refused, round-trip}
 use Rattle.demands.specs.Demand1.{Steps, none, more, Why, spent, stopped, Ends}
-use Rattle.demands.proofs.Demand1.{accepted-run}
+use Rattle.demands.proofs.Answers.{Reasoned, spends, fewer, reasoned}
+use Rattle.demands.proofs.Demand1.{accepted-run, refused-run}
 use Rattle.demands.proofs.GoesOn.{goes-on}
 use Rattle.demands.proofs.Kept.{steps-accepted}
-use Rattle.entry_demands.specs.GoesOn.{Lent, machineOf, Call, GoesOnCalled}
+use Rattle.entry_demands.specs.Calls.{Lent, machineOf, Call}
+use Rattle.entry_demands.specs.GoesOn.{GoesOnCalled}
 use Rattle.entry_demands.proofs.Range.{decoded-in-range, run-in-range}
 
 -- no other reason has the number 20
-
-unread-few : (u : Unread) → unreadNumber u < 20
-unread-few Unassigned = omega arith
-unread-few LeftOut = omega arith
-unread-few Other = omega arith
-
-stop-few : (s : Stop) → stopNumber s < 20
-stop-few stop.NoWord = omega arith
-stop-few (stop.Unread u) = unread-few u
-stop-few stop.BranchInSlot = omega arith
-stop-few stop.SwitchedOff = omega arith
-stop-few stop.NoWindow = omega arith
-stop-few stop.ReadOnly = omega arith
-stop-few stop.Trap = omega arith
-
-refusal-few : (r : Refusal) → refusalNumber r < 20
-refusal-few Registers = omega arith
-refusal-few Program = omega arith
-refusal-few WindowSize = omega arith
-refusal-few SharedAddress = omega arith
-refusal-few State = omega arith
-
-twenty : (r : Reason) (count : ℕ) → (reasonNumber r + 2 ^ 32 * count) % 2 ^ 32 ≡ 20 → r ≡ reason.Spent
-twenty (reason.Refused x) count h = absurd (omega (arith, refusal-few x))
-twenty (reason.Stopped s) count h = absurd (omega (arith, stop-few s))
-twenty reason.Spent count h = refl
+twenty : (r : Reason) → Reasoned r → (count : ℕ) → (reasonNumber r + 2 ^ 32 * count) % 2 ^ 32 ≡ 20 → r ≡ reason.Spent
+twenty r spends count h = refl
+twenty r (fewer l u) count h = absurd (omega arith)
 
 -- and no refused run has it
 admits : (q : Setup) (r : Run) (m : Machine) → admitted q r m .reason ≡ reason.Spent → q ≡ Accepted
@@ -120,6 +92,24 @@ spent-count : {p : List ℕ} {e : Env} {budget count : ℕ} {m : Machine} {r : R
 spent-count (spent h) e = h
 spent-count (stopped s h k) e = let z : _≡_ {A = ℕ} 0 1 = cc in absurd (omega arith)
 
+-- the bytes that a call has left hold the machine that its run ended with
+module _ (p : List ℕ) (e : Env) (n : ℕ) (x : Lent) (bytes : AreBytes (x .control)) where
+  abbrev run : Run
+  run = wholeRun p e n (machineOf x)
+
+  settled-reads : (q : Setup) → refusal p e (machineOf x) ≡ q
+      → decoded (settled (run .count) (run .after .ctl) (x .control)) ≡ run .after .ctl
+  settled-reads Accepted h =
+      settled-back (x .control) (run .count) (run .after .ctl) (long p e x h)
+      (run-in-range p e n (machineOf x) (decoded-in-range (x .control) bytes))
+      (no-steps (accepted-run p e n (machineOf x) h .steps))
+  settled-reads (Refused u) h = rw (refused-run p e n (machineOf x) u h)
+
+  pub left-machine : (a : ℕ) (y : Lent) → Call p e n x a y → machineOf y ≡ wholeRun p e n (machineOf x) .after
+  left-machine a y i =
+      let control = ap decoded (i .control) ∙ settled-reads (refusal p e (machineOf x)) refl in
+      sym (same-machine (run .after) (y .vec) (y .gen) (y .work) (decoded (y .control)) (i .vec) (i .gen) (i .work) control)
+
 -- what the first call has left
 record Left (p : List ℕ) (e : Env) (n : ℕ) (x y : Lent) : Type 0 where
   accepted : refusal p e (machineOf x) ≡ Accepted
@@ -132,20 +122,14 @@ left : (p : List ℕ) (e : Env) (n a : ℕ) (x y : Lent) → AreBytes (x .contro
 left p e n a x y bytes i h =
     let m : Machine = machineOf x in
     let r : Run = wholeRun p e n m in
-    let c : Control = r .after .ctl in
-    let ends : r .reason ≡ reason.Spent = twenty (r .reason) (r .count) (rw (i .answer) at h) in
+    let ends : r .reason ≡ reason.Spent = twenty (r .reason) (reasoned (r .reason)) (r .count) (rw (i .answer) at h) in
     let ok : refusal p e m ≡ Accepted = admits (refusal p e m) (runs p e n m) m ends in
-    let run : Ends p e n m r = accepted-run p e n m ok in
-    let all : r .count ≡ n = spent-count (run .why) ends in
-    let control : y .control ≡ settled n c (x .control) = i .control ∙ ap (λ q. settled q c (x .control)) all in
-    let range : InRange c = run-in-range p e n m (decoded-in-range (x .control) bytes) in
-    let reads = settled-back (x .control) n c (long p e x ok) range (λ z. no-steps (run .steps) (all ∙ z)) in
-    let same = same-machine (r .after) (y .vec) (y .gen) (y .work) (decoded (y .control)) in
+    let all : r .count ≡ n = spent-count (accepted-run p e n m ok .why) ends in
     record {
       accepted = ok;
       ends = ends;
-      control = control;
-      machine = sym (same (i .vec) (i .gen) (i .work) (ap decoded control ∙ reads));
+      control = i .control ∙ ap (λ q. settled q (r .after .ctl) (x .control)) all;
+      machine = left-machine p e n x bytes a y i;
     }
 
 -- a call for the run s
