@@ -1,7 +1,10 @@
 #!/usr/bin/env python3
-"""ops_cases.py OUT FILE..: writes the cases of each FILE (lines of shared/vectors/ops.txt and of tools/examples.txt), a part a file:
-the number of its cases, 8 bytes, and the cases, 96 bytes each, little-endian: word 4, kind 4 (0: the result is a vector register,
-1: a general one), wd ws wt 16 each, rs rt rd 8 each, result 16."""
+"""Writes crates/ops_test/stdin: the cases of each FILE (lines of the form of shared/vectors/ops.txt), a part a file.
+
+usage: tools/ops_cases.py crates/ops_test/stdin VECTORS-DIR/ops.txt VECTORS-DIR/corners-ops.txt tools/examples.txt
+
+A part: the number of its cases, 8 bytes, and the cases, 96 bytes each, little-endian: word 4, kind 4 (0: the result is
+a vector register, 1: a general one), wd ws wt 16 each, rs rt rd 8 each, result 16."""
 import sys
 
 def number(text, size):

@@ -1,9 +1,11 @@
 #!/usr/bin/env python3
-"""Writes crates/words_test/stdin: the cases of shared/vectors/decode.txt and encode.txt, 20 bytes each.
+"""Writes crates/words_test/stdin: the cases of shared/vectors/decode.txt and encode.txt, and then of corners-decode.txt
+and corners-encode.txt, 20 bytes each.
 
 usage: tools/words_vectors.py VECTORS-DIR > crates/words_test/stdin
 
-byte 0      0 decode, 1 encode, 2 an encode case that no Instr can hold (a format or a number that its field's type lacks)
+byte 0      0 decode, 1 encode, 2 an encode case that no Instr can hold (a format or a number that its field's type
+            lacks); 3 to 5 the same of the corners
 bytes 1-4   the word, little-endian (0 where writing is refused)
 byte 5      the number: 0, 12, 13, 14 of reading, 0 or 6 of writing
 byte 6      the class: the place of the variant in isa's Instr
@@ -112,29 +114,34 @@ def read_values(tokens):
     return {k: int(v) for k, v in (t.split("=") for t in tokens)}
 
 
-def main():
-    folder = sys.argv[1]
-    out, bases = [], {}
-    for line in open(os.path.join(folder, "decode.txt")):
-        t = line.split()
-        if t[0] != "D":
-            continue
+def decode_cases(path, first, bases):
+    for t in (line.split() for line in open(path) if line.startswith("D")):
         word, reason = int(t[1], 16), int(t[2])
         facts = bytes(10)
         if reason == 0:
             facts = described(t[3], t[4], read_values(t[5:]))
             bases.setdefault(whole(t[3], t[4]), word)
-        out.append(record(0, word, reason, facts))
-    cases = [line.split() for line in open(os.path.join(folder, "encode.txt")) if line.startswith("E")]
-    for t in cases:
+        yield record(first, word, reason, facts)
+
+
+def encode_cases(path, first, bases):
+    for t in (line.split() for line in open(path) if line.startswith("E")):
         refused = t[-1] == "6"
         word, reason = (0, 6) if refused else (int(t[-1], 16), 0)
         try:
             facts = described(t[1], t[2], read_values(t[3:-2]))
-            out.append(record(1, word, reason, facts, bases[whole(t[1], t[2])]))
+            yield record(first + 1, word, reason, facts, bases[whole(t[1], t[2])])
         except Lacks:
             assert refused
-            out.append(record(2, 0, 6))
+            yield record(first + 2, 0, 6)
+
+
+def main():
+    out, bases = [], {}
+    for first, prefix in ((0, ""), (3, "corners-")):
+        path = os.path.join(sys.argv[1], prefix)
+        out += decode_cases(path + "decode.txt", first, bases)
+        out += encode_cases(path + "encode.txt", first, bases)
     sys.stdout.buffer.write(b"".join(out))
 
 

@@ -1,5 +1,6 @@
-// Runs the cases of shared/vectors/ops.txt, one instruction on registers alone each, in the form that tools/ops_cases.py writes: reads the
-// word, does its operation, and prints how many results are those of the case. After them, the same for tools/examples.txt.
+// Runs the cases of shared/vectors/ops.txt, one instruction on registers alone each, in the form that
+// tools/ops_cases.py writes: reads the word, does its operation, and prints how many results are those of the case.
+// After them, the same for corners-ops.txt of that folder and for tools/examples.txt.
 ghost use Prim.Native.Nat.{_≤_};
 ghost use lib.ListN.{length};
 use isa::Copied;
@@ -207,6 +208,8 @@ fn report(n: u64) {
 
 fn main() {
     io::write_all(1, b"ops.txt: ");
+    report(announced());
+    io::write_all(1, b"corners: ");
     report(announced());
     io::write_all(1, b"examples and sums: ");
     report(announced());

@@ -15,9 +15,10 @@ use reading::read_word;
 use std::num::wrapping_add_u64;
 use writing::write_word;
 
+// Decode, encode and skipped cases, first of the random files and then of the corners.
 struct Tally {
-    agree: [u64; 3],
-    cases: [u64; 3],
+    agree: [u64; 6],
+    cases: [u64; 6],
 }
 
 fn word_of(a: u8, b: u8, c: u8, d: u8) -> u32 {
@@ -71,7 +72,7 @@ fn encodes(base: u32, word: u32, number: u8, f: Facts) -> bool {
 
 fn agrees(r: [u8; 20]) -> bool {
     let word = word_of(r[1], r[2], r[3], r[4]);
-    if r[0] == 0 {
+    if r[0] % 3 == 0 {
         return decodes(word, r[5], fields(r));
     }
     encodes(word_of(r[16], r[17], r[18], r[19]), word, r[5], fields(r))
@@ -84,9 +85,9 @@ fn counted(n: u64, yes: bool) -> u64 {
 fn tallied(t: Tally, r: [u8; 20]) -> Tally {
     let mut agree = t.agree;
     let mut cases = t.cases;
-    let k = (r[0] % 3) as usize;
+    let k = (r[0] % 6) as usize;
     cases[k] = counted(cases[k], true);
-    if k < 2 {
+    if k % 3 < 2 {
         agree[k] = counted(agree[k], agrees(r));
     }
     Tally { agree, cases }
@@ -100,22 +101,29 @@ fn line(name: &[u8], agree: u64, cases: u64) {
     io::write_all(1, b" agree\n");
 }
 
-fn report(t: Tally) {
-    let agree = t.agree;
-    let cases = t.cases;
-    line(b"decode: ", agree[0], cases[0]);
-    line(b"encode: ", agree[1], cases[1]);
-    io::print_decimal(1, cases[2]);
+fn skipped(cases: u64) {
+    io::print_decimal(1, cases);
     io::write_all(
         1,
         b" encode cases have a format or a number that no Instr holds\n",
     );
 }
 
+fn report(t: Tally) {
+    let agree = t.agree;
+    let cases = t.cases;
+    line(b"decode: ", agree[0], cases[0]);
+    line(b"encode: ", agree[1], cases[1]);
+    skipped(cases[2]);
+    line(b"corners, decode: ", agree[3], cases[3]);
+    line(b"corners, encode: ", agree[4], cases[4]);
+    skipped(cases[5]);
+}
+
 fn main() {
     let mut t = Tally {
-        agree: [0; 3],
-        cases: [0; 3],
+        agree: [0; 6],
+        cases: [0; 6],
     };
     let mut turns: u32 = 1000000;
     while 0 < turns {
