@@ -1,38 +1,48 @@
 #!/usr/bin/env python3
-"""Writes crates/machine_test/stdin: the cases of shared/vectors/step.txt, run.txt and kernels/*.vec, document 01's edges of a set-up, and a
-step of each mnemonic and format of shared/vectors/ops.txt.
+"""Writes crates/machine_test/stdin: the cases of shared/vectors/step.txt, run.txt, kernels/*.vec, corners-step.txt and
+corners-run.txt, whole; document 01's edges of a set-up; a step of each mnemonic and format of shared/vectors/ops.txt;
+and control blocks, those outside docs/LAYOUT.md among them.
 
 usage: tools/machine_cases.py VECTORS-DIR > crates/machine_test/stdin
 
-All numbers are little-endian. First the 513 bytes of the common vector registers and the 264 of the common general registers: a case has
-these but in the registers that it keeps (below). Then the cases, each begun by a byte 1:
+All numbers are little-endian. The cases follow each other, each begun by a byte 1:
 
-the head, 128 bytes that are kept from case to case: the changes from the last head (from zeros at first), as pieces
-the contents before of vector registers, general registers, program, table and work window: pieces each, put into the common registers
-    and into windows that were filled with the pattern of the head
-the contents after of vector registers, general registers and work window: pieces each, put into the contents before
+the head (80 bytes), the vector registers (513), the general registers (264) and the control block (280) before: kept
+    from case to case (zeros at first), and pieces each say what changes
+the contents before of program, table and work window: pieces each, put into windows that were filled with the pattern
+    of the head
+the contents after of vector registers, general registers, control block and work window: pieces each, put into the
+    contents before
 
 Pieces: their count (1 byte), and for each its place (2 bytes), its length (1 byte) and its bytes.
 
-The head: 0 group (0 step, 1 run, 2 kernel, 3 edge, 4 form); 1 entry (0 step, 1 run); 2 number of the case in its file (2 bytes); 4 budget (4);
-8 reason; 9, 10 slot mark before, after (0 clear, 1 not taken, 2 taken); 11 MSA switch before + 2 * after; 12 count (4);
-16, 24, 32 bases of program, table, work window (8 each); 40 program counter, 48 target before; 56, 64 after; 72, 76 MSACSR before, after (4);
-80 lengths of vector registers, general registers, program, table, work window (4 each); 100, 104, 108 patterns of the last three (4 each).
-
-A case keeps the registers whose numbers stand in a register field of a word that it can run; no instruction can name another. The values
-of the others make no difference to the answer, and a case that changed one would be found out by this script.
+The head, by the place of each:
+0           group, its place in GROUPS below
+1           entry: 0 msa_step, 1 msa_run
+2           number of the case in its group (2 bytes)
+4           budget (4)
+8           answer: the reason, and of a run 2^32 times the count (8)
+16, 24, 32  bases of program, table, work window (8 each)
+40 to 60    lengths of vector registers, general registers, control block, program, table, work window (4 each)
+64, 68, 72  patterns of program, table, work window (4 each)
+76          zeros (4)
 """
 import glob
 import os
 import struct
 import sys
 
-GROUPS = {"step": 0, "run": 1, "kernel": 2, "edge": 3}
+GROUPS = ["step", "run", "kernels", "corners-step", "corners-run", "edges", "forms", "blocks"]
 KERNELS = ["beams", "correlate", "movavg", "peak", "threshold"]
+BLOCK = "<QQIHH"  # program counter, target, MSACSR, slot mark, MSA switch
 ADDV_W = 0x7842094E  # ADDV.W $w5,$w1,$w2
-# where a vector and where a general register may be named, by the major opcode
-FIELDS = {0b011110: ((6, 11, 16), (6, 11, 16)), 0b010001: ((16,), ()), 0b000000: ((), (11, 16, 21))}
 LD_B = 0x78000960  # LD.B $w5,0($1)
+ODD = 0xFEDCBA9876543211  # a target that no set-up accepts of a taken mark
+
+
+def laid(pc=0, mark=0, target=0, csr=0, on=1):
+    """The bytes of a control block."""
+    return struct.pack(BLOCK, pc, target, csr, mark, on)
 
 
 def data(token):
@@ -51,32 +61,32 @@ def window(text):
 
 def control(text):
     pc, mark, target, csr, on = text.split()
-    return int(pc, 16), int(mark), int(target, 16), int(csr, 16), int(on)
+    return laid(int(pc, 16), int(mark), int(target, 16), int(csr, 16), int(on))
 
 
-def parsed(path):
+def parsed(path, group):
     fields = {}
     for line in open(path):
         key, _, rest = line.rstrip("\n").partition(" ")
         if key == "end":
             if fields["r"] == "0 0 0":
-                yield case_of(fields)
+                yield case_of(fields, group)
             fields = {}
         elif key != "#":
             fields[key] = rest
 
 
-def case_of(f):
+def case_of(f, group):
     name, entry = f["case"].split()
     reason, count = f["="].split()
-    c = {"entry": entry, "v": data(f["v"]), "g": data(f["g"]), "c": control(f["c"]), "C": control(f["C"])}
+    c = {"group": group, "entry": entry, "v": data(f["v"]), "g": data(f["g"])}
+    c["c"], c["C"] = control(f["c"]), control(f["C"])
     for k in "ptw":
         c[k + "b"], c[k] = window(f[k])
     for k in "VGW":
         c[k] = c[k.lower()] if f[k] == "=" else data(f[k])
-    group, _, number = name.partition("-")
-    c["group"] = GROUPS[group]
-    c["number"] = KERNELS.index(number) + 1 if group == "kernel" else int(number)
+    number = name.partition("-")[2]
+    c["number"] = KERNELS.index(number) + 1 if group == "kernels" else int(number)
     c["budget"] = int(f.get("b", "0"))
     c["reason"], c["count"] = int(reason), 0 if count == "-" else int(count)
     return c
@@ -84,9 +94,9 @@ def case_of(f):
 
 def edge(number, entry, reason, **given):
     c = {
-        "group": 3, "number": number, "entry": entry, "reason": reason, "count": 0, "budget": 0,
+        "group": "edges", "number": number, "entry": entry, "reason": reason, "count": 0, "budget": 0,
         "v": bytes((7 * i) % 256 for i in range(512)), "g": bytes(256), "p": struct.pack("<I", ADDV_W), "t": b"", "w": bytes(range(16)),
-        "pb": 0, "tb": 0, "wb": 1000, "c": (0, 0, 0, 0, 1),
+        "pb": 0, "tb": 0, "wb": 1000, "c": laid(),
     }  # fmt: skip
     c.update(given)
     for k in "vgwc":
@@ -102,7 +112,7 @@ def added(v):
 def edges():
     """Document 01, "Sums to check against": the set-up, the loads about a window of 16 bytes, and the budgets of a one-word program."""
     v = edge(0, "step", 0)["v"]
-    done = {"V": added(v), "C": (4, 0, 0, 0, 1)}
+    done = {"V": added(v), "C": laid(4)}
     n = iter(range(1, 100))
     for entry in ("step", "run"):
         ran = {"step": {"reason": 0}, "run": {"reason": 20, "count": 1, "budget": 1}}[entry]
@@ -111,8 +121,8 @@ def edges():
             yield edge(next(n), entry, 1, v=bytes(length), budget=1)
         yield edge(next(n), entry, **ran, **done, p=struct.pack("<I", ADDV_W) * 65536)
         yield edge(next(n), entry, 2, p=struct.pack("<I", ADDV_W) * 65537, budget=1)
-        yield edge(next(n), entry, **ran, V=done["V"], c=(0, 0, 0, 0x0107FFFF, 1), C=(4, 0, 0, 0x0107FFFF, 1))
-        yield edge(next(n), entry, 5, c=(0, 0, 0, 0x00080000, 1), budget=1)
+        yield edge(next(n), entry, **ran, V=done["V"], c=laid(csr=0x0107FFFF), C=laid(4, csr=0x0107FFFF))
+        yield edge(next(n), entry, 5, c=laid(csr=0x00080000), budget=1)
         for at in (999, 1000, 1001):
             g = bytes(8) + struct.pack("<Q", at) + bytes(240)
             load = {"g": g, "p": struct.pack("<I", LD_B)}
@@ -125,28 +135,6 @@ def edges():
     yield edge(next(n), "run", 11, budget=2, count=1, **done)
 
 
-def put(file, size, r, digits):
-    return file[: size * r] + int(digits, 16).to_bytes(size, "little") + file[size * r + size :]
-
-
-def forms(path):
-    """The first of the eight cases of each mnemonic and format of ops.txt, as a step."""
-    lines = [line.split()[1:] for line in open(path) if line.startswith("O ")]
-    for number, (word, wd, ws, wt, rs, rt, rd, _, kind, result) in enumerate(lines[::8], 1):
-        w = int(word, 16)
-        v, g = VECTORS[:512], GENERALS[:256]
-        for at, digits in ((6, wd), (11, ws), (16, wt)):
-            v = put(v, 16, w >> at & 31, digits)
-        places = (11, 16, 6) if w >> 26 else (21, 16, 11)  # LSA and DLSA have major opcode 0
-        for at, digits in zip(places, (rs, rt, rd)):
-            g = put(g, 8, w >> at & 31, digits)
-        after = {"V": put(v, 16, w >> 6 & 31, result)} if kind == "W" else {}
-        if kind == "G":
-            r = w >> places[2] & 31
-            after = {"G": put(g, 8, r, result) if r else g}
-        yield edge(number, "step", 0, group=4, v=v, g=g, p=struct.pack("<I", w), C=(4, 0, 0, 0, 1), **after)
-
-
 def common(n, seed):
     """Bytes of no meaning: a linear congruence modulo 2^32, its top bytes."""
     out = bytearray()
@@ -156,8 +144,94 @@ def common(n, seed):
     return bytes(out)
 
 
-VECTORS = common(513, 1)
-GENERALS = bytes(8) + common(256, 2)
+def put(file, size, r, digits):
+    return file[: size * r] + int(digits, 16).to_bytes(size, "little") + file[size * r + size :]
+
+
+def forms(path):
+    """The first of the eight cases of each mnemonic and format of ops.txt, as a step."""
+    lines = [line.split()[1:] for line in open(path) if line.startswith("O ")]
+    for number, (word, wd, ws, wt, rs, rt, rd, _, kind, result) in enumerate(lines[::8], 1):
+        w = int(word, 16)
+        v, g = common(512, 1), bytes(8) + common(248, 2)
+        for at, digits in ((6, wd), (11, ws), (16, wt)):
+            v = put(v, 16, w >> at & 31, digits)
+        places = (11, 16, 6) if w >> 26 else (21, 16, 11)  # LSA and DLSA have major opcode 0
+        for at, digits in zip(places, (rs, rt, rd)):
+            g = put(g, 8, w >> at & 31, digits)
+        after = {"V": put(v, 16, w >> 6 & 31, result)} if kind == "W" else {}
+        if kind == "G":
+            r = w >> places[2] & 31
+            after = {"G": put(g, 8, r, result) if r else g}
+        yield edge(number, "step", 0, group="forms", v=v, g=g, p=struct.pack("<I", w), C=laid(4), **after)
+
+
+# a bit in each place, and the numbers about a byte
+NUMBERS = [0, 1, 2, 3, 4] + [1 << k for k in range(3, 16)] + [255, 257, 258, 65535]
+# what is answered before 5
+EARLIER = [
+    (1, {"v": bytes(511)}),
+    (1, {"g": bytes(255)}),
+    (2, {"pb": 2}),
+    (2, {"p": struct.pack("<IH", ADDV_W, 0)}),
+    (3, {"wb": 2**64 - 1}),
+    (4, {"t": bytes(16), "tb": 1000}),
+]
+
+
+def block_answer(b):
+    """What a step of ADDV.W at address 0 answers, where only the control block b can be refused: docs/LAYOUT.md."""
+    if len(b) != 24:
+        return 5
+    pc, target, csr, mark, on = struct.unpack(BLOCK, b)
+    if pc % 4 or csr & ~0x0107FFFF or mark > 2 or (mark == 2 and target % 4) or on > 1:
+        return 5
+    return 0 if on else 16
+
+
+def block_ways(b):
+    """The block b for a step, a run of one and a run of none."""
+    reason = block_answer(b)
+    done = {}
+    if reason == 0:
+        _, target, csr, mark, _ = struct.unpack(BLOCK, b)
+        done = {"V": added(edge(0, "step", 0)["v"]), "C": laid(target if mark == 2 else 4, csr=csr)}
+    yield edge(0, "step", reason, c=b, **done)
+    yield edge(0, "run", 20 if reason == 0 else reason, c=b, budget=1, count=int(reason == 0), **done)
+    yield edge(0, "run", 5 if reason == 5 else 20, c=b)
+
+
+def refused_earlier(b):
+    for reason, given in EARLIER:
+        for entry in ("step", "run"):
+            yield edge(0, entry, reason, c=b, budget=1, **given)
+
+
+def odd_targets(cases):
+    """The first case of each entry, reason and mark that is not taken, with a target beside it, which is not looked at:
+    it is kept where nothing was finished, else 0 is written."""
+    seen = set()
+    for c in cases:
+        pc, _, csr, mark, on = struct.unpack(BLOCK, c["c"])
+        finished = c["count"] > 0 or c["reason"] == 0
+        key = c["entry"], c["reason"], finished, mark
+        if mark < 2 and key not in seen:
+            seen.add(key)
+            b = laid(pc, mark, ODD, csr, on)
+            yield {**c, "c": b, "C": c["C"] if finished else b}
+
+
+def blocks(cases):
+    lengths = [(laid() + bytes(256))[:n] for n in [*range(50), 280]]
+    pairs = [(m, s) for m in NUMBERS for s in NUMBERS if m < 3 or s < 2 or m == s]
+    marks = [laid(mark=m, target=ODD if m < 2 else 8, csr=0x0107FFFF, on=s) for m, s in pairs]
+    others = [laid(pc=2), laid(mark=2, target=10), laid(csr=0x00080000)]
+    out = [c for b in lengths + marks + others for c in block_ways(b)]
+    outside = [lengths[n] for n in (0, 23, 25)] + [laid(mark=m) for m in (3, 255, 256, 512, 65535)]
+    outside += [laid(on=s) for s in (2, 255, 256, 512, 65535)] + others
+    out += [c for b in outside for c in refused_earlier(b)]
+    out += odd_targets(cases)
+    return [{**c, "group": "blocks", "number": n} for n, c in enumerate(out, 1)]
 
 
 def pieces(old, new):
@@ -173,30 +247,6 @@ def pieces(old, new):
     return bytes([len(spans)]) + b"".join(struct.pack("<HB", a, e - a) + new[a:e] for a, e in spans)
 
 
-def words_run(c):
-    """The words that the case can run: for a step the one at the program counter."""
-    p = c["p"]
-    if c["entry"] == "run":
-        return {struct.unpack_from("<I", p, i)[0] for i in range(0, len(p) - 3, 4)}
-    at = c["c"][0] - c["pb"]
-    return {struct.unpack_from("<I", p, at)[0]} if 0 <= at <= len(p) - 4 else set()
-
-
-def kept(c, before, after, size, others):
-    """The registers with the common values in those that no word names."""
-    if len(before) != 32 * size:
-        assert after == before
-        return others[: len(before)], others[: len(before)]
-    file = 0 if size == 16 else 1
-    named = {(w >> k) & 31 for w in words_run(c) for k in FIELDS.get(w >> 26, ((), ()))[file]} | {0}
-    old, new = bytearray(before), bytearray(after)
-    for r in set(range(32)) - named:
-        part = slice(size * r, size * r + size)
-        assert old[part] == new[part], (c["group"], c["number"], r)
-        old[part] = new[part] = others[part]
-    return bytes(old), bytes(new)
-
-
 def pattern(b):
     """The four bytes that a window is filled with: its first four where it is long."""
     return b[:4] if len(b) > 8192 else bytes(4)
@@ -207,34 +257,35 @@ def filled(b):
 
 
 def head(c):
-    (pc, mark, target, csr, on), (pc2, mark2, target2, csr2, on2) = c["c"], c["C"]
-    h = struct.pack("<BBHIBBBBI", c["group"], c["entry"] == "run", c["number"], c["budget"], c["reason"], mark, mark2, on + 2 * on2, c["count"])
-    h += struct.pack("<QQQQQQQII", c["pb"], c["tb"], c["wb"], pc, target, pc2, target2, csr, csr2)
-    h += struct.pack("<IIIII", *(len(c[k]) for k in "vgptw")) + b"".join(pattern(c[k]) for k in "ptw")
-    return h + bytes(128 - len(h))
+    answer = c["reason"] + 2**32 * c["count"]
+    h = struct.pack("<BBHIQ", GROUPS.index(c["group"]), c["entry"] == "run", c["number"], c["budget"], answer)
+    h += struct.pack("<QQQ", c["pb"], c["tb"], c["wb"])
+    h += struct.pack("<6I", *(len(c[k]) for k in "vgcptw")) + b"".join(pattern(c[k]) for k in "ptw")
+    return h + bytes(80 - len(h))
 
 
-def record(c, last):
-    assert len(c["v"]) <= 513 and len(c["g"]) <= 264 and all(len(c[k]) <= 1048577 for k in "ptw")  # what the program holds
-    h = head(c)
-    v, v2 = kept(c, c["v"], c["V"], 16, VECTORS)
-    g, g2 = kept(c, c["g"], c["G"], 8, GENERALS)
-    out = b"\1" + pieces(last, h) + pieces(VECTORS[: len(v)], v) + pieces(GENERALS[: len(g)], g)
+def record(c, kept):
+    """The bytes of the case; kept has what is kept from case to case."""
+    assert all(len(c[k]) <= 1048577 for k in "ptw")  # what the program holds
+    now = [head(c)] + [c[k] + old[len(c[k]) :] for k, old in zip("vgc", kept[1:])]
+    out = b"\1" + b"".join(pieces(old, new) for old, new in zip(kept, now))
     out += b"".join(pieces(filled(c[k]), c[k]) for k in "ptw")
-    return out + pieces(v, v2) + pieces(g, g2) + pieces(c["w"], c["W"]), h
+    return out + b"".join(pieces(c[k], c[k.upper()]) for k in "vgcw"), now
 
 
 def main():
     folder = sys.argv[1]
-    cases = [c for f in ("step.txt", "run.txt") for c in parsed(os.path.join(folder, f))]
-    cases += [c for f in sorted(glob.glob(os.path.join(folder, "kernels", "*.vec"))) for c in parsed(f)]
+    cases = []
+    for group, name in zip(GROUPS, ["step.txt", "run.txt", "kernels/*.vec", "corners-step.txt", "corners-run.txt"]):
+        for path in sorted(glob.glob(os.path.join(folder, name))):
+            cases += parsed(path, group)
     cases += edges()
     cases += forms(os.path.join(folder, "ops.txt"))
-    out, last = [VECTORS, GENERALS], bytes(128)
+    cases += blocks(cases)
+    kept = [bytes(n) for n in (80, 513, 264, 280)]
     for c in cases:
-        text, last = record(c, last)
-        out.append(text)
-    sys.stdout.buffer.write(b"".join(out))
+        text, kept = record(c, kept)
+        sys.stdout.buffer.write(text)
 
 
 main()

@@ -1,63 +1,60 @@
-// Replays the cases of standard input through `step` and `run`, and compares the reason, the count, the control block, every register and
-// the work window, byte for byte. tools/machine_cases.py says what a case is made of.
-mod answers;
+// Replays the cases of standard input through the C entry, `msa_step` and `msa_run`, and compares the answer, every
+// register, the control block and the work window, byte for byte. tools/machine_cases.py says what a case is made of.
 mod head;
 mod pieces;
 mod tally;
 
-use crate::answers::Got;
 use crate::tally::Tally;
 ghost use mathlib.Core.Path.{_≡_};
 ghost use lib.ListN.{length};
 
-// Runs what the head names on these registers and windows.
+// Calls what the head names on these registers and windows.
 fn called(
-    h: [u8; 128],
+    h: [u8; 80],
     program: &[u8],
     table: &[u8],
     vectors: &mut [u8],
     generals: &mut [u8],
     work: &mut [u8],
-) -> Got {
-    let bases = head::bases(h);
-    let c = head::control_before(h);
-    if h[1] == 0 {
-        return answers::of_step(machine::step::step(
-            bases,
+    control: &mut [u8],
+) -> u64 {
+    let p = head::base(h, 0);
+    let t = head::base(h, 1);
+    let w = head::base(h, 2);
+    let budget = head::budget(h);
+    if head::is_run(h) {
+        return entry::msa_run(
             program,
+            p,
             table,
+            t,
             vectors,
             generals,
             work,
-            c,
-        ));
+            w,
+            control,
+            budget,
+        );
     }
-    answers::of_run(machine::run::run(
-        bases,
-        program,
-        table,
-        vectors,
-        generals,
-        work,
-        c,
-        head::budget(h),
-    ))
+    entry::msa_step(program, p, table, t, vectors, generals, work, w, control)
 }
 
 // The same on the part of each that the head says.
 fn ran(
-    h: [u8; 128],
+    h: [u8; 80],
     program: &[u8],
     table: &[u8],
     vectors: &mut [u8],
     generals: &mut [u8],
     work: &mut [u8],
-) -> Got {
+    control: &mut [u8],
+) -> u64 {
     let v = io::count(head::length(h, 0), vectors);
     let g = io::count(head::length(h, 1), generals);
-    let p = io::count(head::length(h, 2), program);
-    let t = io::count(head::length(h, 3), table);
-    let w = io::count(head::length(h, 4), work);
+    let c = io::count(head::length(h, 2), control);
+    let p = io::count(head::length(h, 3), program);
+    let t = io::count(head::length(h, 4), table);
+    let w = io::count(head::length(h, 5), work);
     called(
         h,
         &program[..p],
@@ -65,28 +62,30 @@ fn ran(
         &mut vectors[..v],
         &mut generals[..g],
         &mut work[..w],
+        &mut control[..c],
     )
 }
 
 // Reads the windows before; `want` has the work window's bytes too.
 fn read_windows(
-    h: [u8; 128],
+    h: [u8; 80],
     program: &mut [u8],
     table: &mut [u8],
     work: &mut [u8],
     want: &mut [u8],
 ) {
-    pieces::load(program, head::length(h, 2), head::pattern(h, 0));
-    pieces::load(table, head::length(h, 3), head::pattern(h, 1));
-    pieces::load(work, head::length(h, 4), head::pattern(h, 2));
-    pieces::copy(want, work, head::length(h, 4));
+    pieces::load(program, head::length(h, 3), head::pattern(h, 0));
+    pieces::load(table, head::length(h, 4), head::pattern(h, 1));
+    pieces::load(work, head::length(h, 5), head::pattern(h, 2));
+    pieces::copy(want, work, head::length(h, 5));
 }
 
 // Reads the contents after, runs the case and compares.
 fn agrees_after(
-    h: [u8; 128],
+    h: [u8; 80],
     vectors: [u8; 513],
     generals: [u8; 264],
+    control: [u8; 280],
     program: &[u8],
     table: &[u8],
     work: &mut [u8],
@@ -94,33 +93,47 @@ fn agrees_after(
 ) -> bool {
     let mut v = vectors;
     let mut g = generals;
+    let mut c = control;
     let mut want_v = vectors;
     let mut want_g = generals;
+    let mut want_c = control;
     pieces::patch(&mut want_v);
     pieces::patch(&mut want_g);
+    pieces::patch(&mut want_c);
     pieces::patch(want);
-    let got = ran(h, program, table, &mut v, &mut g, work);
-    let answered = head::answers(h, got);
+    let answered = ran(h, program, table, &mut v, &mut g, work, &mut c) == head::answer(h);
     let registers = pieces::same(&v, &want_v) & pieces::same(&g, &want_g);
-    answered & registers & pieces::same_start(work, want, head::length(h, 4))
+    let lent = pieces::same(&c, &want_c) & pieces::same_start(work, want, head::length(h, 5));
+    answered & registers & lent
 }
 
-// Reads a case after its head, runs it and compares.
+// Reads the next case, runs it and compares. The head, and the registers and the control block before, are kept from
+// case to case.
 fn agrees(
-    h: [u8; 128],
-    vectors: [u8; 513],
-    generals: [u8; 264],
+    h: &mut [u8; 80],
+    vectors: &mut [u8; 513],
+    generals: &mut [u8; 264],
+    control: &mut [u8; 280],
     program: &mut [u8],
     table: &mut [u8],
     work: &mut [u8],
     want: &mut [u8],
 ) -> bool {
-    let mut v = vectors;
-    let mut g = generals;
-    pieces::patch(&mut v);
-    pieces::patch(&mut g);
-    read_windows(h, program, table, work, want);
-    agrees_after(h, v, g, program, table, work, want)
+    pieces::patch(h);
+    pieces::patch(vectors);
+    pieces::patch(generals);
+    pieces::patch(control);
+    read_windows(*h, program, table, work, want);
+    agrees_after(
+        *h,
+        *vectors,
+        *generals,
+        *control,
+        program,
+        table,
+        work,
+        want,
+    )
 }
 
 // Whether a case follows.
@@ -129,24 +142,17 @@ fn more() -> bool {
     io::read_full(0, &mut b) == 1
 }
 
-// The head of the next case.
-fn next_head(h: &mut [u8; 128]) {
-    pieces::patch(h);
-}
-
 fn replay_all(program: &mut [u8], table: &mut [u8], work: &mut [u8], want: &mut [u8]) -> Tally {
-    let mut vectors = [0u8; 513];
-    let mut generals = [0u8; 264];
-    io::read_full(0, &mut vectors);
-    io::read_full(0, &mut generals);
-    let mut h = [0u8; 128];
+    let mut h = [0u8; 80];
+    let mut v = [0u8; 513];
+    let mut g = [0u8; 264];
+    let mut c = [0u8; 280];
     let mut t = tally::none();
     let mut turns: u32 = 65536;
     while 0 < turns {
         turns -= 1;
         if more() {
-            next_head(&mut h);
-            let yes = agrees(h, vectors, generals, program, table, work, want);
+            let yes = agrees(&mut h, &mut v, &mut g, &mut c, program, table, work, want);
             t = tally::with(t, h, yes);
         } else {
             turns = 0;

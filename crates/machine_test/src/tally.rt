@@ -3,15 +3,15 @@ use crate::head;
 use std::num::wrapping_add_u64;
 
 pub struct Tally {
-    pub cases: [u64; 5],
-    pub agree: [u64; 5],
+    pub cases: [u64; 8],
+    pub agree: [u64; 8],
     pub reached: [u64; 32],
 }
 
 pub fn none() -> Tally {
     Tally {
-        cases: [0; 5],
-        agree: [0; 5],
+        cases: [0; 8],
+        agree: [0; 8],
         reached: [0; 32],
     }
 }
@@ -28,15 +28,24 @@ fn name(group: u8) {
             io::write_all(1, b"kernels");
         }
         3 => {
+            io::write_all(1, b"corners, step");
+        }
+        4 => {
+            io::write_all(1, b"corners, run");
+        }
+        5 => {
             io::write_all(1, b"edges");
         }
-        _ => {
+        6 => {
             io::write_all(1, b"forms");
+        }
+        _ => {
+            io::write_all(1, b"blocks");
         }
     }
 }
 
-fn differs(h: [u8; 128]) {
+fn differs(h: [u8; 80]) {
     name(h[0]);
     io::write_all(1, b" case ");
     io::print_decimal(1, head::number(h));
@@ -44,11 +53,11 @@ fn differs(h: [u8; 128]) {
 }
 
 // The tally with one case more.
-pub fn with(t: Tally, h: [u8; 128], agrees: bool) -> Tally {
+pub fn with(t: Tally, h: [u8; 80], agrees: bool) -> Tally {
     let mut cases = t.cases;
     let mut agree = t.agree;
     let mut reached = t.reached;
-    let k = (h[0] % 5) as usize;
+    let k = (h[0] % 8) as usize;
     let r = (h[8] % 32) as usize;
     cases[k] = wrapping_add_u64(cases[k], 1);
     if agrees {
@@ -80,15 +89,15 @@ fn reason(n: usize, times: u64) {
     }
 }
 
-pub fn report(t: Tally) {
-    let cases = t.cases;
-    let agree = t.agree;
-    let reached = t.reached;
-    line(0, agree[0], cases[0]);
-    line(1, agree[1], cases[1]);
-    line(2, agree[2], cases[2]);
-    line(3, agree[3], cases[3]);
-    line(4, agree[4], cases[4]);
+fn lines(agree: [u64; 8], cases: [u64; 8]) {
+    let mut k: usize = 0;
+    while k < 8 {
+        line(k as u8, agree[k], cases[k]);
+        k += 1;
+    }
+}
+
+fn reasons(reached: [u64; 32]) {
     io::write_all(1, b"reasons reached:");
     let mut n: usize = 1;
     while n < 32 {
@@ -96,4 +105,12 @@ pub fn report(t: Tally) {
         n += 1;
     }
     io::write_all(1, b"\n");
+}
+
+pub fn report(t: Tally) {
+    let agree = t.agree;
+    let cases = t.cases;
+    let reached = t.reached;
+    lines(agree, cases);
+    reasons(reached);
 }
