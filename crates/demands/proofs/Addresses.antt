@@ -29,16 +29,19 @@ module _ (x field n : ℕ) (small : n ≤ 8) where
 
   from-pos : (k : ℕ) → wrap 64 (pos x +ℤ pos k *ℤ pos n) ≡ (x + k * n) % 2 ^ 64
   from-pos k =
-      wrap-is 64 (diff-add (diff-pos x) (diff-pos (k * n))) ((x + k * n) % 2 ^ 64) 0 ((x + k * n) / 2 ^ 64) (mod-lt (x + k * n) (pow-pos 64)) (omega arith)
+      wrap-is 64 (diff-add (diff-pos x) (diff-pos (k * n))) ((x + k * n) % 2 ^ 64) 0 ((x + k * n) / 2 ^ 64)
+      (mod-lt (x + k * n) (pow-pos 64)) (omega arith)
 
   -- a field that stands for z, 1,024 less
   from-less : (z : ℤ) → Diff z field 1024 → wrap 64 (pos x +ℤ z *ℤ pos n) ≡ high % 2 ^ 64
   from-less (pos k) d =
       let e : field * n ≡ 1024 * n + k * n = ap (λ y. y * n) (d .is) ∙ add-mul 1024 k n in
-      wrap-is 64 (diff-add (diff-pos x) (diff-pos (k * n))) (high % 2 ^ 64) 1 (high / 2 ^ 64) (mod-lt high (pow-pos 64)) (omega arith)
+      wrap-is 64 (diff-add (diff-pos x) (diff-pos (k * n))) (high % 2 ^ 64) 1 (high / 2 ^ 64) (mod-lt high (pow-pos 64))
+      (omega arith)
   from-less (negsuc k) d =
       let e : 1024 * n ≡ field * n + suc k * n = ap (λ y. y * n) (d .is) ∙ add-mul field (suc k) n in
-      wrap-is 64 (diff-add (diff-pos x) (diff-neg (diff-pos (suc k * n)))) (high % 2 ^ 64) 1 (high / 2 ^ 64) (mod-lt high (pow-pos 64)) (omega arith)
+      wrap-is 64 (diff-add (diff-pos x) (diff-neg (diff-pos (suc k * n)))) (high % 2 ^ 64) 1 (high / 2 ^ 64)
+      (mod-lt high (pow-pos 64)) (omega arith)
 
   scaled-from : wrap 64 (pos x +ℤ signed 10 field *ℤ pos n) ≡ addressFrom x field n
   unfolding signed
@@ -46,7 +49,9 @@ module _ (x field n : ℕ) (small : n ≤ 8) where
     where
       go : Dec (field < 512) → wrap 64 (pos x +ℤ signed 10 field *ℤ pos n) ≡ addressFrom x field n
       go (yes h) = rw (lt-ltb field 512 h) (from-pos field)
-      go (no h) = rw (le-ltb field 512 (omega arith)) (from-less (pos field -ℤ pos 1024) (diff-to (diff-minus (diff-pos field) (diff-pos 1024)) (omega arith)))
+      go (no h) =
+          rw (le-ltb field 512 (omega arith))
+          (from-less (pos field -ℤ pos 1024) (diff-to (diff-minus (diff-pos field) (diff-pos 1024)) (omega arith)))
 
 pub address-from : (df : Width) (field x : ℕ) → address df field x ≡ addressFrom x field (elementBytes df)
 unfolding address

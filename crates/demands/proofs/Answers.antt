@@ -1,5 +1,5 @@
--- The answers of step and run by both tables: the limits come first, and the rest is the first reason where the machine stands then.
--- Assumes nothing.
+-- The answers of step and run by both tables: the limits come first, and the rest is the first reason where the machine
+-- stands then. Assumes nothing.
 use mathlib.Core.Path.{_≡_, refl, sym, ap, _∙_, subst}
 use mathlib.Core.List.{List, _∷_, _++_}
 use Prim.Native.Nat.{ℕ, _<_}
@@ -29,12 +29,14 @@ use Rattle.demands.proofs.Kept.{steps-accepted}
 use Rattle.demands.proofs.Limits.{orNumber, limits-first}
 use Rattle.demands.proofs.Reasons.{first-reason}
 
-whole-number : (q : Setup) (s : Result) (m : Machine) → orNumber q (outcomeNumber (s .outcome)) ≡ answerNumber (whole q s m .answer)
+whole-number : (q : Setup) (s : Result) (m : Machine)
+    → orNumber q (outcomeNumber (s .outcome)) ≡ answerNumber (whole q s m .answer)
 whole-number Accepted s m = refl
 whole-number (Refused r) s m = refl
 
 -- the definition's step
-pub step-first : (p : List ℕ) (e : Env) (m : Machine) → First (limits p e m ++ stops p e m) (answerNumber (wholeStep p e m .answer))
+pub step-first : (p : List ℕ) (e : Env) (m : Machine)
+    → First (limits p e m ++ stops p e m) (answerNumber (wholeStep p e m .answer))
 step-first p e m =
     rw (whole-number (setup.refusal p e m) (stepOf p e m) m) at
     (limits-first p e m (stops p e m) (outcomeNumber (stepOf p e m .outcome)) (first-reason p e m))
@@ -82,12 +84,15 @@ module _ (p : List ℕ) (e : Env) (budget : ℕ) where
   why-first count m r a (spent h) = given h
   why-first count m r a (stopped s l h) = passed (λ (z : count ≡ budget). omega arith) (rw h at (first-reason p e m a))
 
-  run-number : (q : Setup) (r : Run) (m : Machine) → orNumber q (reasonNumber (r .reason)) ≡ reasonNumber (admitted q r m .reason)
+  run-number : (q : Setup) (r : Run) (m : Machine)
+      → orNumber q (reasonNumber (r .reason)) ≡ reasonNumber (admitted q r m .reason)
   run-number Accepted r m = refl
   run-number (Refused x) r m = refl
 
   -- the definition's run
-  pub run-first : (m : Machine) → Answers p e budget m (reasonNumber (wholeRun p e budget m .reason)) (wholeRun p e budget m .count) (wholeRun p e budget m .after)
+  pub run-first : (m : Machine)
+      → Answers p e budget m (reasonNumber (wholeRun p e budget m .reason)) (wholeRun p e budget m .count)
+      (wholeRun p e budget m .after)
   run-first m =
       record {
         number =
@@ -97,7 +102,8 @@ module _ (p : List ℕ) (e : Env) (budget : ℕ) where
       }
     where
       accepted-first : setup.refusal p e m ≡ Accepted
-          → First (row 20 (wholeRun p e budget m .count ≡ budget) ∷ stops p e (wholeRun p e budget m .after)) (reasonNumber (runs p e budget m .reason))
+          → First (row 20 (wholeRun p e budget m .count ≡ budget) ∷ stops p e (wholeRun p e budget m .after))
+          (reasonNumber (runs p e budget m .reason))
       accepted-first a =
           let ends = accepted-run p e budget m a in
           let n : reasonNumber (wholeRun p e budget m .reason) ≡ reasonNumber (runs p e budget m .reason) = rw a in
@@ -107,4 +113,5 @@ module _ (p : List ℕ) (e : Env) (budget : ℕ) where
 pub run-answers : RunAnswers
 run-answers p e budget m r v g w i =
     let s = wholeRun p e budget m in
-    rw (i .reason, i .count, ← same-machine (s .after) v g w (r .control) (i .vec) (i .gen) (i .work) (i .control)) (run-first p e budget m)
+    rw (i .reason, i .count, ← same-machine (s .after) v g w (r .control) (i .vec) (i .gen) (i .work) (i .control))
+    (run-first p e budget m)

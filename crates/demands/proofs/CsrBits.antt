@@ -22,7 +22,8 @@ every (suc k) f = f k && every k f
 
 every-at : (k : ℕ) (f : ℕ → Bool) → every k f ≡ true → (j : ℕ) → j < k → f j ≡ true
 every-at zero f h j l = absurd (omega arith)
-every-at (suc k) f h j l = go (decLe k j) (and-left (f k) (every k f) h) (every-at k f (and-right (f k) (every k f) h) j)
+every-at (suc k) f h j l =
+    go (decLe k j) (and-left (f k) (every k f) h) (every-at k f (and-right (f k) (every k f) h) j)
   where
     go : Dec (k ≤ j) → f k ≡ true → (j < k → f j ≡ true) → f j ≡ true
     go (yes g) a b = let e : j ≡ k = omega arith in rw e a
@@ -49,7 +50,8 @@ kept-bit x k h =
 
 left-reflects : (x k : ℕ) → k < 19 → Reflects (bit k (masked x)) (Left x k)
 left-reflects x k h =
-    likewise (λ b. (sym (kept-bit x k h) ∙ b, low-there k h)) (λ l. kept-bit x k h ∙ l .0) (eq-reflects (masked x / 2 ^ k % 2) 1)
+    likewise (λ b. (sym (kept-bit x k h) ∙ b, low-there k h)) (λ l. kept-bit x k h ∙ l .0)
+    (eq-reflects (masked x / 2 ^ k % 2) 1)
 
 module _ (x : ℕ) where
   -- position k of the five
@@ -58,7 +60,8 @@ module _ (x : ℕ) where
 
   pair : (k : ℕ) → k < 5 → Reflects (bit (12 + k) (masked x) && bit (7 + k) (masked x)) (Pair k)
   pair k h =
-      and-reflects (bit (12 + k) (masked x)) (bit (7 + k) (masked x)) (left-reflects x (12 + k) (omega arith)) (left-reflects x (7 + k) (omega arith))
+      and-reflects (bit (12 + k) (masked x)) (bit (7 + k) (masked x)) (left-reflects x (12 + k) (omega arith))
+      (left-reflects x (7 + k) (omega arith))
 
   abbrev Pairs : Type 0
   Pairs = ((((Left x 17 ⊎ Pair 4) ⊎ Pair 3) ⊎ Pair 2) ⊎ Pair 1) ⊎ Pair 0
@@ -76,11 +79,13 @@ module _ (x : ℕ) where
 
   pairs-arm : Pairs → Arms x
   pairs-arm =
-      ⊎-elim (⊎-elim (⊎-elim (⊎-elim (⊎-elim inl (some 4 (omega arith))) (some 3 (omega arith))) (some 2 (omega arith))) (some 1 (omega arith)))
+      ⊎-elim (⊎-elim (⊎-elim (⊎-elim (⊎-elim inl (some 4 (omega arith))) (some 3 (omega arith))) (some 2 (omega arith)))
+      (some 1 (omega arith)))
       (some 0 (omega arith))
 
   arm-pairs : Arms x → Pairs
-  arm-pairs = ⊎-elim (λ l. inl (inl (inl (inl (inl l))))) (λ s. pairs-of (s .number) (s .holds .0) (s .holds .1, s .holds .2))
+  arm-pairs =
+      ⊎-elim (λ l. inl (inl (inl (inl (inl l))))) (λ s. pairs-of (s .number) (s .holds .0) (s .holds .1, s .holds .2))
 
   -- 19: the machine's test of the value that it keeps
   pub arms-reflects : Reflects (arms (masked x)) (Arms x)
@@ -89,7 +94,8 @@ module _ (x : ℕ) where
       (or-reflects _ _
       (or-reflects _ _
       (or-reflects _ _
-      (or-reflects _ _ (or-reflects _ _ (left-reflects x 17 (omega arith)) (pair 4 (omega arith))) (pair 3 (omega arith)))
+      (or-reflects _ _ (or-reflects _ _ (left-reflects x 17 (omega arith)) (pair 4 (omega arith)))
+      (pair 3 (omega arith)))
       (pair 2 (omega arith)))
       (pair 1 (omega arith)))
       (pair 0 (omega arith)))
@@ -116,17 +122,20 @@ module _ (x : ℕ) where
   above some =
       let s = bit-in (x / 2 ^ 25) (x / 2 ^ 25) (omega arith) some in
       let none : csrBits / 2 ^ (25 + s .number) ≡ 0 = sym (shr-shr csrBits 25 (s .number)) ∙ zero-div (2 ^ s .number) in
-      record { number = 25 + s .number; holds = (ap (λ y. y % 2) (sym (shr-shr x 25 (s .number))) ∙ s .holds, λ b. omega (arith, none)) }
+      let there = ap (λ y. y % 2) (sym (shr-shr x 25 (s .number))) ∙ s .holds in
+      record { number = 25 + s .number; holds = (there, λ b. omega (arith, none)) }
 
   -- masking changes a number that has one
   found : (masked x ≡ x → ⊥) → Outside
   found n =
-      go (decLt 0 (x / 2 ^ 19 % 2)) (decLt 0 (x / 2 ^ 20 % 2)) (decLt 0 (x / 2 ^ 21 % 2)) (decLt 0 (x / 2 ^ 22 % 2)) (decLt 0 (x / 2 ^ 23 % 2))
+      go (decLt 0 (x / 2 ^ 19 % 2)) (decLt 0 (x / 2 ^ 20 % 2)) (decLt 0 (x / 2 ^ 21 % 2)) (decLt 0 (x / 2 ^ 22 % 2))
+      (decLt 0 (x / 2 ^ 23 % 2))
     where
       at : (k : ℕ) → Bit k x → (Bit k csrBits → ⊥) → Outside
       at k b o = record { number = k; holds = (b, o) }
 
-      go : Dec (0 < x / 2 ^ 19 % 2) → Dec (0 < x / 2 ^ 20 % 2) → Dec (0 < x / 2 ^ 21 % 2) → Dec (0 < x / 2 ^ 22 % 2) → Dec (0 < x / 2 ^ 23 % 2)
+      go : Dec (0 < x / 2 ^ 19 % 2) → Dec (0 < x / 2 ^ 20 % 2) → Dec (0 < x / 2 ^ 21 % 2) → Dec (0 < x / 2 ^ 22 % 2)
+          → Dec (0 < x / 2 ^ 23 % 2)
           → Outside
       go (yes b) c d f g = at 19 (omega arith) (λ o. omega arith)
       go (no b) (yes c) d f g = at 20 (omega arith) (λ o. omega arith)
@@ -171,4 +180,6 @@ module _ (x : ℕ) where
             absurd (omega arith)
 
   pub outside-reflects : Reflects (not (eqb (masked x) x)) Outside
-  outside-reflects = likewise found (λ s e. s .holds .1 (inside e (s .number) (s .holds .0))) (not-reflects (eqb (masked x) x) (eq-reflects (masked x) x))
+  outside-reflects =
+      likewise found (λ s e. s .holds .1 (inside e (s .number) (s .holds .0)))
+      (not-reflects (eqb (masked x) x) (eq-reflects (masked x) x))

@@ -33,7 +33,8 @@ unfolding little number
 little-number s at zero = refl
 little-number s at (suc n) = go (decLt at (length s)) (little-number s (at + 1) n)
   where
-    go : Dec (at < length s) → little s (at + 1) n ≡ number (part s (at + 1) n) → getD s at 0 + 256 * little s (at + 1) n ≡ number (part s at (suc n))
+    go : Dec (at < length s) → little s (at + 1) n ≡ number (part s (at + 1) n)
+        → getD s at 0 + 256 * little s (at + 1) n ≡ number (part s at (suc n))
     go (yes h) e = rw (drop-cons s at 0 h, e, add-one)
     go (no h) e =
         let z : number (part s (at + 1) n) ≡ 0 = rw (drop-past s (at + 1) (omega arith)) (number-none n) in

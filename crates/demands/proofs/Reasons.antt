@@ -1,4 +1,5 @@
--- The first reason: by the word at the counter, what it reads as, and what the instruction may stop for. Assumes nothing.
+-- The first reason: by the word at the counter, what it reads as, and what the instruction may stop for. Assumes
+-- nothing.
 use mathlib.Core.Path.{_≡_, refl, sym, ap, _∙_}
 use mathlib.Core.Bool.{Bool, true, false, cond, _&&_}
 use mathlib.Core.List.{List, [], _∷_}
@@ -105,7 +106,8 @@ module _ (i : Instr) (q : Plan) (rows : List Row) (rest : First rows (outcomeNum
   not-on : Not (Off true)
   not-on h = clash refl (h .1)
 
-  switch-first : Not (IgnoresSwitch i) → (on : Bool) → First (row 16 (Off on) ∷ rows) (outcomeNumber (outcomeOf (unless (switchedEarly on) q)))
+  switch-first : Not (IgnoresSwitch i) → (on : Bool)
+      → First (row 16 (Off on) ∷ rows) (outcomeNumber (outcomeOf (unless (switchedEarly on) q)))
   switch-first s true = passed not-on rest
   switch-first s false = let h : Off false = (s, refl) in given h
 
@@ -150,7 +152,8 @@ module _ (e : Env) (m : Machine) (sized : Sized e m) where
 
     -- the address, by either definition
     same : addressFrom (general m rs) offset (elementBytes df) ≡ a
-    same = ap (λ x. addressFrom x offset (elementBytes df)) (general-at rs) ∙ sym (address-from df offset (generalAt (m .gen) rs))
+    same = ap (λ x. addressFrom x offset (elementBytes df)) (general-at rs)
+        ∙ sym (address-from df offset (generalAt (m .gen) rs))
 
     below : a < 2 ^ 64
     unfolding address
@@ -171,19 +174,28 @@ module _ (e : Env) (m : Machine) (sized : Sized e m) where
 
     load-first : (t w : Bool) → Reflects t (InTable e a) → Reflects w (InWork e m a)
         → First (risks (instr.Memory Ld df wd offset rs))
-        (outcomeNumber (outcomeOf (loaded (orElse (cond t (At (a - e .bases .table)) Nowhere) (cond w (At (a - e .bases .work)) Nowhere)) wd (e .table) (m .work))))
+        (outcomeNumber
+        (outcomeOf (loaded
+        (orElse (cond t (At (a - e .bases .table)) Nowhere) (cond w (At (a - e .bases .work)) Nowhere)) wd (e .table)
+        (m .work))))
     load-first true w x y =
-        passed (λ h. accessed Ld Nowhere? h .0 (x .yes refl)) (passed (λ h. not-store (accessed Ld ReadOnly? h .0)) (passed (no-csr Ld) none))
+        passed (λ h. accessed Ld Nowhere? h .0 (x .yes refl))
+        (passed (λ h. not-store (accessed Ld ReadOnly? h .0)) (passed (no-csr Ld) none))
     load-first false true x y =
-        passed (λ h. accessed Ld Nowhere? h .1 (y .yes refl)) (passed (λ h. not-store (accessed Ld ReadOnly? h .0)) (passed (no-csr Ld) none))
+        passed (λ h. accessed Ld Nowhere? h .1 (y .yes refl))
+        (passed (λ h. not-store (accessed Ld ReadOnly? h .0)) (passed (no-csr Ld) none))
     load-first false false x y = given (access Ld Nowhere? (x .no refl, y .no refl))
 
     store-first : (t w : Bool) (v : ℕ) → Reflects t (InTable e a) → Reflects w (InWork e m a)
         → First (risks (instr.Memory St df wd offset rs))
-        (outcomeNumber (outcomeOf (stored (orElse (cond t (At (a - e .bases .table)) Nowhere) (cond w (At (a - e .bases .work)) Nowhere)) a v)))
-    store-first true w v x y = passed (λ h. accessed St Nowhere? h .0 (x .yes refl)) (given (access St ReadOnly? (refl, x .yes refl)))
+        (outcomeNumber
+        (outcomeOf (stored
+        (orElse (cond t (At (a - e .bases .table)) Nowhere) (cond w (At (a - e .bases .work)) Nowhere)) a v)))
+    store-first true w v x y =
+        passed (λ h. accessed St Nowhere? h .0 (x .yes refl)) (given (access St ReadOnly? (refl, x .yes refl)))
     store-first false true v x y =
-        passed (λ h. accessed St Nowhere? h .1 (y .yes refl)) (passed (λ h. x .no refl (accessed St ReadOnly? h .1)) (passed (no-csr St) none))
+        passed (λ h. accessed St Nowhere? h .1 (y .yes refl))
+        (passed (λ h. x .no refl (accessed St ReadOnly? h .1)) (passed (no-csr St) none))
     store-first false false v x y = given (access St Nowhere? (x .no refl, y .no refl))
 
   -- CTCMSA
@@ -201,13 +213,18 @@ module _ (e : Env) (m : Machine) (sized : Sized e m) where
     no-access f h = elim h [ ]
 
     control-first : (one trap : Bool) → Reflects one (cd .0 ≡ 1) → Reflects trap (Arms x)
-        → First (risks (instr.Ctcmsa cd rs)) (outcomeNumber (outcomeOf (cond one (cond trap (plan.Stop Trap) (plan.Csr (masked x))) plan.Nothing)))
-    control-first true true a b = passed (no-access Nowhere?) (passed (no-access ReadOnly?) (given (sets (a .yes refl, b .yes refl))))
-    control-first true false a b = passed (no-access Nowhere?) (passed (no-access ReadOnly?) (passed (λ h. b .no refl (set h .1)) none))
-    control-first false trap a b = passed (no-access Nowhere?) (passed (no-access ReadOnly?) (passed (λ h. a .no refl (set h .0)) none))
+        → First (risks (instr.Ctcmsa cd rs))
+        (outcomeNumber (outcomeOf (cond one (cond trap (plan.Stop Trap) (plan.Csr (masked x))) plan.Nothing)))
+    control-first true true a b =
+        passed (no-access Nowhere?) (passed (no-access ReadOnly?) (given (sets (a .yes refl, b .yes refl))))
+    control-first true false a b =
+        passed (no-access Nowhere?) (passed (no-access ReadOnly?) (passed (λ h. b .no refl (set h .1)) none))
+    control-first false trap a b =
+        passed (no-access Nowhere?) (passed (no-access ReadOnly?) (passed (λ h. a .no refl (set h .0)) none))
 
   -- an instruction that none of them concerns
-  quiet : {i : Instr} → Not (Accesses m Nowhere? i) → Not (Accesses m ReadOnly? i) → Not (SetsCsr m Arms i) → First (risks i) 0
+  quiet : {i : Instr} → Not (Accesses m Nowhere? i) → Not (Accesses m ReadOnly? i) → Not (SetsCsr m Arms i)
+      → First (risks i) 0
   quiet n r c = passed n (passed r (passed c none))
 
   executed-first : (i : Instr) → First (risks i) (outcomeNumber (outcomeOf (executed e m i)))
@@ -225,17 +242,20 @@ module _ (e : Env) (m : Machine) (sized : Sized e m) where
   executed-first (instr.Move wd ws) = quiet (λ h. elim h [ ]) (λ h. elim h [ ]) (λ h. elim h [ ])
   executed-first (instr.Cfcmsa rd cs) = quiet (λ h. elim h [ ]) (λ h. elim h [ ]) (λ h. elim h [ ])
   executed-first (instr.Ctcmsa cd rs) =
-      control-first cd rs (eqb (cd .0) 1) (arms (masked (generalAt (m .gen) rs))) (eq-reflects (cd .0) 1) (arms-reflects (generalAt (m .gen) rs))
+      control-first cd rs (eqb (cd .0) 1) (arms (masked (generalAt (m .gen) rs))) (eq-reflects (cd .0) 1)
+      (arms-reflects (generalAt (m .gen) rs))
   executed-first (instr.Vec o wd ws wt) = quiet (λ h. elim h [ ]) (λ h. elim h [ ]) (λ h. elim h [ ])
   executed-first (instr.Fill df wd rs) = quiet (λ h. elim h [ ]) (λ h. elim h [ ]) (λ h. elim h [ ])
   executed-first (instr.Count o df wd ws) = quiet (λ h. elim h [ ]) (λ h. elim h [ ]) (λ h. elim h [ ])
   executed-first (instr.Memory Ld df wd offset rs) =
       let at = a df wd offset rs in
-      load-first df wd offset rs (holds (e .bases .table) (length (e .table)) at) (holds (e .bases .work) (length (m .work)) at)
+      load-first df wd offset rs (holds (e .bases .table) (length (e .table)) at)
+      (holds (e .bases .work) (length (m .work)) at)
       (in-table at (below df wd offset rs)) (in-work at (below df wd offset rs))
   executed-first (instr.Memory St df wd offset rs) =
       let at = a df wd offset rs in
-      store-first df wd offset rs (holds (e .bases .table) (length (e .table)) at) (holds (e .bases .work) (length (m .work)) at)
+      store-first df wd offset rs (holds (e .bases .table) (length (e .table)) at)
+      (holds (e .bases .work) (length (m .work)) at)
       (registerAt (m .vec) wd) (in-table at (below df wd offset rs)) (in-work at (below df wd offset rs))
   executed-first (instr.Branch o df wt offset) = quiet (λ h. elim h [ ]) (λ h. elim h [ ]) (λ h. elim h [ ])
   executed-first (instr.BranchV o wt offset) = quiet (λ h. elim h [ ]) (λ h. elim h [ ]) (λ h. elim h [ ])
@@ -267,10 +287,14 @@ module _ (p : List ℕ) (e : Env) (m : Machine) where
   stands : Reflects stands? (Some (StandsAt p e m))
   stands =
       likewise
-      (λ h. record { number = (m .ctl .pc - e .bases .program) / 4; holds = (omega (arith, h .0 .0, h .1), omega (arith, h .0 .0, h .0 .1)) })
+      (λ h.
+      let inside : (m .ctl .pc - e .bases .program) / 4 < length p / 4 = omega (arith, h .0 .0, h .1) in
+      let at : m .ctl .pc ≡ e .bases .program + 4 * ((m .ctl .pc - e .bases .program) / 4) = omega (arith, h .0 .0, h .0 .1) in
+      record { number = (m .ctl .pc - e .bases .program) / 4; holds = (inside, at) })
       (λ s. let i = s .holds .0 in let k = s .holds .1 in ((omega arith, omega arith), omega arith))
       (and-reflects _ _
-      (and-reflects _ _ (le-reflects (e .bases .program) (m .ctl .pc)) (eq-reflects ((m .ctl .pc - e .bases .program) % 4) 0))
+      (and-reflects _ _ (le-reflects (e .bases .program) (m .ctl .pc))
+      (eq-reflects ((m .ctl .pc - e .bases .program) % 4) 0))
       (le-reflects (m .ctl .pc - e .bases .program + 4) (length p)))
 
   abbrev w : ℕ
@@ -279,14 +303,18 @@ module _ (p : List ℕ) (e : Env) (m : Machine) where
   reads : Some (StandsAt p e m) → ReadsAs p e m (readOf w)
   reads s =
       let k : 4 * s .number ≡ m .ctl .pc - e .bases .program = omega (arith, s .holds .1) in
-      record { number = s .number; holds = (s .holds, ap readOf (little-number p (4 * s .number) 4 ∙ ap (λ at. number (part p at 4)) k)) }
+      let same = ap readOf (little-number p (4 * s .number) 4 ∙ ap (λ at. number (part p at 4)) k) in
+      record { number = s .number; holds = (s .holds, same) }
 
   module _ (sized : Sized e m) where
     planned-first : (i : Instr)
-        → First (row 15 (IsBranch i × Not (m .ctl .mark ≡ Clear)) ∷ row 16 (Not (IgnoresSwitch i) × (m .ctl .on ≡ false)) ∷ risks e m sized i)
+        → First (row 15 (IsBranch i × Not (m .ctl .mark ≡ Clear))
+        ∷ row 16 (Not (IgnoresSwitch i) × (m .ctl .on ≡ false)) ∷ risks e m sized i)
         (outcomeNumber (outcomeOf (planOf e m i)))
     unfolding planOf
-    planned-first i = early-first i (executed e m i) (risks e m sized i) (executed-first e m sized i) (kindOf i) (kinds i) (m .ctl .mark) (m .ctl .on)
+    planned-first i =
+        early-first i (executed e m i) (risks e m sized i) (executed-first e m sized i) (kindOf i) (kinds i)
+        (m .ctl .mark) (m .ctl .on)
 
     -- it reads as nothing else
     other : {r : Read} (s : Read) → ReadsAs p e m r → Not (r ≡ s) → Not (ReadsAs p e m s)
@@ -296,18 +324,22 @@ module _ (p : List ℕ) (e : Env) (m : Machine) where
     decided-first (read.Not Unassigned) here = given here
     decided-first (read.Not LeftOut) here = passed (other (read.Not Unassigned) here (λ q. differ (cc))) (given here)
     decided-first (read.Not Other) here =
-        passed (other (read.Not Unassigned) here (λ q. differ (cc))) (passed (other (read.Not LeftOut) here (λ q. differ (cc))) (given here))
+        passed (other (read.Not Unassigned) here (λ q. differ (cc)))
+        (passed (other (read.Not LeftOut) here (λ q. differ (cc))) (given here))
     decided-first (read.Instr i) here =
         passed (other (read.Not Unassigned) here (λ q. differ (cc)))
         (passed (other (read.Not LeftOut) here (λ q. differ (cc)))
         (passed (other (read.Not Other) here (λ q. differ (cc)))
         (swapped (does i here) (done i here)
         (swapped (does i here) (done i here)
-        (swapped (does i here) (done i here) (swapped (does i here) (done i here) (swapped (does i here) (done i here) (λ f. f)))))
+        (swapped (does i here) (done i here)
+        (swapped (does i here) (done i here) (swapped (does i here) (done i here) (λ f. f)))))
         (planned-first i))))
 
-    counter-first : (b : Bool) → Reflects b (Some (StandsAt p e m)) → First (stops p e m) (outcomeNumber (attempted (cond b (Word w) NoWord) e m .outcome))
-    counter-first true x = passed (λ (n : Not (Some (StandsAt p e m))). n (x .yes refl)) (decided-first (readOf w) (reads (x .yes refl)))
+    counter-first : (b : Bool) → Reflects b (Some (StandsAt p e m))
+        → First (stops p e m) (outcomeNumber (attempted (cond b (Word w) NoWord) e m .outcome))
+    counter-first true x =
+        passed (λ (n : Not (Some (StandsAt p e m))). n (x .yes refl)) (decided-first (readOf w) (reads (x .yes refl)))
     counter-first false x = given (x .no refl)
 
 pub first-reason : FirstReason

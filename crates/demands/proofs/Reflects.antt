@@ -41,9 +41,11 @@ and-reflects true b x y = record { yes = λ e. (x .yes refl, y .yes e); no = λ 
 and-reflects false b x y = record { yes = λ e. clash e refl; no = λ e h. x .no refl (h .0) }
 
 -- the first of several facts that are tested from the left
-pub or-first : (a b c : Bool) {P Q R : Type 0} → Reflects ((a || b) || c) ((P ⊎ Q) ⊎ R) → Reflects ((a || b) || c) (P ⊎ Q ⊎ R)
+pub or-first : (a b c : Bool) {P Q R : Type 0} → Reflects ((a || b) || c) ((P ⊎ Q) ⊎ R)
+    → Reflects ((a || b) || c) (P ⊎ Q ⊎ R)
 or-first a b c r =
-    likewise (⊎-elim (⊎-elim inl (λ q. inr (inl q))) (λ z. inr (inr z))) (⊎-elim (λ p. inl (inl p)) (⊎-elim (λ q. inl (inr q)) inr)) r
+    likewise (⊎-elim (⊎-elim inl (λ q. inr (inl q))) (λ z. inr (inr z)))
+    (⊎-elim (λ p. inl (inl p)) (⊎-elim (λ q. inl (inr q)) inr)) r
 
 pub four-reflect : (a b c d : Bool) {P Q R S : Type 0} → Reflects a P → Reflects b Q → Reflects c R → Reflects d S
     → Reflects (((a || b) || c) || d) (P ⊎ Q ⊎ R ⊎ S)

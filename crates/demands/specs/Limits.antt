@@ -1,5 +1,5 @@
--- The limits of set-up: document 01's table, a row a number, in its order. A set-up is refused with the number of the first row that
--- applies, and accepted where none does.
+-- The limits of set-up: document 01's table, a row a number, in its order. A set-up is refused with the number of the
+-- first row that applies, and accepted where none does.
 use mathlib.Core.Path.{_≡_}
 use mathlib.Core.Logic.{_⊎_}
 use mathlib.Core.List.{List, [], _∷_}
@@ -27,7 +27,8 @@ Window base n = (1048576 < n) ⊎ (2 ^ 64 < base + n)
 abbrev pub Shared : Env → Machine → Type 0
 Shared e m = Some (λ x. Inside (e .bases .table) (length (e .table)) x × Inside (e .bases .work) (length (m .work)) x)
 
--- register 0 is not zero, program counter, or the target of a mark set and taken, is no multiple of 4, or MSACSR has a bit outside 0107FFFF
+-- register 0 is not zero, program counter, or the target of a mark set and taken, is no multiple of 4, or MSACSR has a
+-- bit outside 0107FFFF
 abbrev pub State : List ℕ → Control → Type 0
 State gen c =
     Not (little gen 0 8 ≡ 0)

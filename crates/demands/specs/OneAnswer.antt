@@ -18,24 +18,28 @@ use Rattle.machine.specs.Step.{Result, StepIs, Whole, WholeIs}
 -- `advance`, inside a step and a run
 abbrev pub OneAdvance : Type 0
 OneAdvance =
-    (s : Result) (r r′ : Stepped) (v v′ g g′ w w′ : List ℕ) → StepIs s r v g w → StepIs s r′ v′ g′ w′ → (r ≡ r′) × (v ≡ v′) × (g ≡ g′) × (w ≡ w′)
+    (s : Result) (r r′ : Stepped) (v v′ g g′ w w′ : List ℕ) → StepIs s r v g w → StepIs s r′ v′ g′ w′
+    → (r ≡ r′) × (v ≡ v′) × (g ≡ g′) × (w ≡ w′)
 
 -- `step::step`
 abbrev pub OneStep : Type 0
 OneStep =
-    (s : Whole) (r r′ : Answered) (v v′ g g′ w w′ : List ℕ) → WholeIs s r v g w → WholeIs s r′ v′ g′ w′ → (r ≡ r′) × (v ≡ v′) × (g ≡ g′) × (w ≡ w′)
+    (s : Whole) (r r′ : Answered) (v v′ g g′ w w′ : List ℕ) → WholeIs s r v g w → WholeIs s r′ v′ g′ w′
+    → (r ≡ r′) × (v ≡ v′) × (g ≡ g′) × (w ≡ w′)
 
 -- `run::run`
 abbrev pub OneRun : Type 0
-OneRun = (s : Run) (r r′ : Ended) (v v′ g g′ w w′ : List ℕ) → RunIs s r v g w → RunIs s r′ v′ g′ w′ → (r ≡ r′) × (v ≡ v′) × (g ≡ g′) × (w ≡ w′)
+OneRun = (s : Run) (r r′ : Ended) (v v′ g g′ w w′ : List ℕ) → RunIs s r v g w → RunIs s r′ v′ g′ w′
+    → (r ≡ r′) × (v ≡ v′) × (g ≡ g′) × (w ≡ w′)
 
--- every other public function: its contract is an equation between its answer, or a lent buffer at exit, and a definition (`tools/pages.py`
--- holds each of them to that form)
+-- every other public function: its contract is an equation between its answer, or a lent buffer at exit, and a
+-- definition (`tools/pages.py` holds each of them to that form)
 abbrev pub OneValue : Type 1
 OneValue = (A : Type 0) (d r r′ : A) → r ≡ d → r′ ≡ d → r ≡ r′
 
--- or a record that has it as a field: an element, a register; or one that says document 01's number and values of it: what the set-up limits
--- and fetching say (reading and writing: crate `words`, `read-unique`, `write-unique`; a text and a line: `listing`, `put-unique`, `line-unique`)
+-- or a record that has it as a field: an element, a register; or one that says document 01's number and values of it:
+-- what the set-up limits and fetching say (reading and writing: crate `words`, `read-unique`, `write-unique`; a text
+-- and a line: `listing`, `put-unique`, `line-unique`)
 abbrev pub OneElement : Type 0
 OneElement = (n x r r′ : ℕ) → Element n r x → Element n r′ x → r ≡ r′
 

@@ -1,5 +1,6 @@
--- The stops of a step: document 01's table, a row a number, in its order, and the answers of step and run by both tables: the number of
--- the first limit that is broken, else, in a run, 20 where the budget is spent, else that of the first stop that applies; 0 where none does.
+-- The stops of a step: document 01's table, a row a number, in its order, and the answers of step and run by both
+-- tables: the number of the first limit that is broken, else, in a run, 20 where the budget is spent, else that of the
+-- first stop that applies; 0 where none does.
 -- (That a stop changes nothing is `StopKeeps` of Demand1.)
 use mathlib.Core.Path.{_≡_}
 use mathlib.Core.Bool.{false, cond}
@@ -62,7 +63,8 @@ addressFrom x field n = cond (ltb field 512) (x + field * n) (x + field * n + 2 
 
 -- a load or a store of which f holds, with the address of its first byte
 pub data Accesses (m : Machine) (f : Memory → ℕ → Type 0) : Instr → Type 0 where
-  at : {o : Memory} {df : Width} {wd : Vreg} {offset : ℕ} {rs : Greg} → f o (addressFrom (general m rs) offset (elementBytes df))
+  at : {o : Memory} {df : Width} {wd : Vreg} {offset : ℕ} {rs : Greg}
+      → f o (addressFrom (general m rs) offset (elementBytes df))
       → Accesses m f (instr.Memory o df wd offset rs)
 
 -- a CTCMSA to MSACSR, control register 1, of a value of which f holds
@@ -123,7 +125,9 @@ abbrev pub stops : List ℕ → Env → Machine → List Row
 stops p e m = row 11 (Not (Some (StandsAt p e m))) ∷ readStops p e m
 
 abbrev pub FirstReason : Type 1
-FirstReason = (p : List ℕ) (e : Env) (m : Machine) → refusal p e m ≡ Accepted → First (stops p e m) (outcomeNumber (stepOf p e m .outcome))
+FirstReason =
+    (p : List ℕ) (e : Env) (m : Machine) → refusal p e m ≡ Accepted
+    → First (stops p e m) (outcomeNumber (stepOf p e m .outcome))
 
 -- ---- the answers
 
@@ -140,5 +144,6 @@ pub record Answers (p : List ℕ) (e : Env) (budget : ℕ) (m : Machine) (reason
 
 abbrev pub RunAnswers : Type 1
 RunAnswers =
-    (p : List ℕ) (e : Env) (budget : ℕ) (m : Machine) (r : Ended) (v g w : List ℕ) → RunIs (wholeRun p e budget m) r v g w
+    (p : List ℕ) (e : Env) (budget : ℕ) (m : Machine) (r : Ended) (v g w : List ℕ)
+    → RunIs (wholeRun p e budget m) r v g w
     → Answers p e budget m (reasonNumber (r .reason)) (r .count) (machine v g w (r .control))

@@ -1,5 +1,6 @@
--- Document 01's tables, and the words in which their rows are put. Nothing here is the machine's own: each is said from that paper a second
--- time, so that a definition of the machine that differs from it is found out. `Limits` is the table of set-up, `Reasons` that of the stops.
+-- Document 01's tables, and the words in which their rows are put. Nothing here is the machine's own: each is said from
+-- that paper a second time, so that a definition of the machine that differs from it is found out. `Limits` is the
+-- table of set-up, `Reasons` that of the stops.
 use mathlib.Core.Path.{_≡_}
 use mathlib.Core.List.{List, [], _∷_}
 use Prim.Native.Nat.{ℕ, zero, suc, _+_, _*_, _/_, _%_, _^_, _≤_, _<_}

@@ -1,4 +1,5 @@
--- The answers of the C entry are those of the definition's step and run, in the numbers that it makes of them. Assumes nothing.
+-- The answers of the C entry are those of the definition's step and run, in the numbers that it makes of them. Assumes
+-- nothing.
 use mathlib.Core.Path.{_≡_}
 use Prim.Native.Nat.{ℕ, _+_, _*_, _/_, _%_, _^_, _<_}
 use native.Mathlib.Omega.{arith}

@@ -108,7 +108,8 @@ module _ (p : List ℕ) (e : Env) (n : ℕ) (x : Lent) (bytes : AreBytes (x .con
   pub left-machine : (a : ℕ) (y : Lent) → Call p e n x a y → machineOf y ≡ wholeRun p e n (machineOf x) .after
   left-machine a y i =
       let control = ap decoded (i .control) ∙ settled-reads (refusal p e (machineOf x)) refl in
-      sym (same-machine (run .after) (y .vec) (y .gen) (y .work) (decoded (y .control)) (i .vec) (i .gen) (i .work) control)
+      sym (same-machine (run .after) (y .vec) (y .gen) (y .work) (decoded (y .control)) (i .vec) (i .gen)
+      (i .work) control)
 
 -- what the first call has left
 record Left (p : List ℕ) (e : Env) (n : ℕ) (x y : Lent) : Type 0 where

@@ -1,5 +1,6 @@
--- What `msa_step` and `msa_run` answer, by document 01's two tables (`Limits` and `Reasons` of the crate `demands`): the number of the first
--- row that applies. The control block counts as the layout reads it; one outside the layout is read as one that row 5 applies to.
+-- What `msa_step` and `msa_run` answer, by document 01's two tables (`Limits` and `Reasons` of the crate `demands`):
+-- the number of the first row that applies. The control block counts as the layout reads it; one outside the layout is
+-- read as one that row 5 applies to.
 use mathlib.Core.List.{List, _++_}
 use Prim.Native.Nat.{ℕ, _/_, _%_, _^_}
 use Rattle.memory.specs.Bytes.{AreBytes}
@@ -11,7 +12,8 @@ use Rattle.entry_demands.specs.Calls.{Lent, machineOf, StepCall, Call}
 
 abbrev pub StepCalled : Type 1
 StepCalled =
-    (p : List ℕ) (e : Env) (x y : Lent) (r : ℕ) → StepCall p e x r y → First (limits p e (machineOf x) ++ stops p e (machineOf x)) r
+    (p : List ℕ) (e : Env) (x y : Lent) (r : ℕ) → StepCall p e x r y
+    → First (limits p e (machineOf x) ++ stops p e (machineOf x)) r
 
 -- the low half of the answer is the reason, the high half the count
 abbrev pub RunCalled : Type 1

@@ -24,4 +24,5 @@ StepCall p e x r y = StepsTo (wholeStep p e (machineOf x)) r (y .vec) (y .gen) (
 
 -- the same of `msa_run`; its answer is reason + 2^32 * count
 abbrev pub Call : List ℕ → Env → ℕ → Lent → ℕ → Lent → Type 0
-Call p e budget x r y = RunsTo (wholeRun p e budget (machineOf x)) r (y .vec) (y .gen) (y .work) (x .control) (y .control)
+Call p e budget x r y =
+    RunsTo (wholeRun p e budget (machineOf x)) r (y .vec) (y .gen) (y .work) (x .control) (y .control)
