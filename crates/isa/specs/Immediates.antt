@@ -1,5 +1,5 @@
--- Which immediates of I5 are signed: CEQI, CLTI_S, CLEI_S, MAXI_S and MINI_S have an s5, the others a u5. What an instruction does with its
--- immediate and what a listing shows of it both follow this.
+-- Which immediates of I5 are signed: CEQI, CLTI_S, CLEI_S, MAXI_S and MINI_S have an s5, the others a u5. What an
+-- instruction does with its immediate and what a listing shows of it both follow this.
 use mathlib.Core.Bool.{Bool, true, false}
 use Rattle.isa.specs.declared.Basic.{Basic}
 use Rattle.isa.specs.declared.Basic.the-variants as basic

@@ -1,5 +1,5 @@
--- Document 01's number and values for each case of each answer. The promises of reading, writing, fetching, set-up, a step, a run and a
--- line are stated through these: an answer is what it says in that paper's terms, and nothing else.
+-- Document 01's number and values for each case of each answer. The promises of reading, writing, fetching, set-up, a
+-- step, a run and a line are stated through these: an answer is what it says in that paper's terms, and nothing else.
 use Prim.Native.Nat.{ℕ}
 use Rattle.isa.specs.declared.Unread.{Unread}
 use Rattle.isa.specs.declared.Unread.the-variants.{Unassigned, LeftOut, Other}

@@ -1,4 +1,5 @@
--- The word at the program counter: word i of the program stands at base + 4i, its four bytes little-endian. Where there is none: 11.
+-- The word at the program counter: word i of the program stands at base + 4i, its four bytes little-endian. Where there
+-- is none: 11.
 use mathlib.Core.Path.{_≡_}
 use Prim.Native.Nat.{ℕ, _+_, _-_, _%_}
 use mathlib.Core.List.{List}

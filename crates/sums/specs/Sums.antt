@@ -1,4 +1,5 @@
--- Document 01's sums marked P, in its order, one list: what the definitions give of an instruction, and what the paper says.
+-- Document 01's sums marked P, in its order, one list: what the definitions give of an instruction, and what the paper
+-- says.
 use mathlib.Core.Path.{_≡_}
 use mathlib.Core.Bool.{true}
 use mathlib.Core.List.{List, [], _∷_, _++_}

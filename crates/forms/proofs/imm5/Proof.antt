@@ -9,7 +9,13 @@ returns : tie.Need-returns
 returns c =
     let made = c .before .before .before .immediate in
     let start = c .before .before .before .before .before in
-    rw (← c .before .before .before .before .imm5-signed .ensures, ← made .ensures, ← value-filled (shares (start .args .w)) (made .result), ← c .before .before .spread .ensures, ← c .before .imm5-arith .ensures)
+    rw (
+      ← c .before .before .before .before .imm5-signed .ensures,
+      ← made .ensures,
+      ← value-filled (shares (start .args .w)) (made .result),
+      ← c .before .before .spread .ensures,
+      ← c .before .imm5-arith .ensures,
+    )
     (c .each .ensures)
 
 pub imm5-spec : {M : Type 1} → statement M

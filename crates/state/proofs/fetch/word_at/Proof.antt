@@ -34,7 +34,8 @@ returns-4 c =
     let a = c .before .before .before .before .before .before .args in
     fetches
     (ap Word (c .four .ensures)
-    ∙ sym (fetched-word (a .program .now) (a .base) (a .pc) (omega arith) (c .before .before .before .if2 .left) (omega arith)))
+    ∙ sym (fetched-word (a .program .now) (a .base) (a .pc) (omega arith) (c .before .before .before .if2 .left)
+    (omega arith)))
 
 returns-5 : tie.Need-returns-5
 returns-5 c =
