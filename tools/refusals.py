@@ -10,7 +10,7 @@ import re
 import sys
 
 KINDS = [
-    ("terms differ", r"differ|two (values|sides|types) are|but this has type"),
+    ("terms differ", r"differ|two (values|sides|types) are|but this has type|lands at index"),
     ("omega: does not follow", r"`omega`: the (goal|part \S+ of the goal) does not follow"),
     ("equation left over", r"what it leaves must be a path|goal `⊥`"),
     ("ensures not proved", r"it is not proved that"),
