@@ -1,4 +1,5 @@
--- Demand 3, by induction on the first run's budget: a step with the wider window has the same plan, or the first stops with 17.
+-- Demand 3, by induction on the first run's budget: a step with the wider window has the same plan, or the first stops
+-- with 17.
 -- Assumes nothing.
 use mathlib.Core.Path.{_≡_, refl, sym, ap, _∙_, subst}
 use mathlib.Core.Bool.{Bool, true, false, cond}
@@ -10,6 +11,7 @@ use lib.Dec.{eqb}
 use lib.ListN.{length, getD}
 use Rattle.isa.specs.declared.Instr.{Instr}
 use Rattle.isa.specs.declared.Instr.the-variants as instr
+use Rattle.isa.specs.declared.Memory.{Memory}
 use Rattle.isa.specs.declared.Memory.the-variants.{Ld, St}
 use Rattle.isa.specs.declared.Read.{Read}
 use Rattle.isa.specs.declared.Read.the-variants as read
@@ -20,12 +22,13 @@ use Rattle.memory.specs.File.{registerAt}
 use Rattle.memory.specs.Value.{value}
 use Rattle.memory.proofs.Numbers.{length-bytesOf}
 use Rattle.memory.proofs.Parts.{same-part, length-replaced, replaced-before, replaced-inside, replaced-after}
+use Rattle.ops.specs.Meaning.{memoryAt}
 use Rattle.plan.specs.declared.Plan.{Plan}
 use Rattle.plan.specs.declared.Plan.the-variants as plan
 use Rattle.plan.specs.declared.planned.Early.{Early}
 use Rattle.plan.specs.declared.planned.Early.the-variants.{Go, Stops}
 use Rattle.plan.specs.Numbers.{address}
-use Rattle.plan.specs.Plan.{planOf, executed, early, unless, kindOf, loaded, stored, writes, generalAt}
+use Rattle.plan.specs.Plan.{planOf, executed, early, unless, kindOf, accessed, loaded, stored, writes, generalAt}
 use Rattle.reading.specs.Reading.{readOf}
 use Rattle.state.specs.declared.control.Control.{Control}
 use Rattle.state.specs.declared.fetch.Fetched.{Fetched}
@@ -47,7 +50,8 @@ use Rattle.demands.specs.Demand3.{Holds, Untouched, EndsAlike, placedEnv
 
 -- windows
 
-module _ (b₁ : ℕ) (w₁ : List ℕ) (b₂ : ℕ) (w₂ : List ℕ) (holds : Holds b₁ w₁ b₂ w₂) (a : ℕ) (from : b₁ ≤ a) (to : a + 16 ≤ b₁ + length w₁) where
+module _ (b₁ : ℕ) (w₁ : List ℕ) (b₂ : ℕ) (w₂ : List ℕ) (holds : Holds b₁ w₁ b₂ w₂)
+    (a : ℕ) (from : b₁ ≤ a) (to : a + 16 ≤ b₁ + length w₁) where
   -- sixteen bytes of the first window are in the second
   wider-from : b₂ ≤ a
   wider-from = let h = holds (a - b₁) (omega arith) in omega arith
@@ -73,7 +77,8 @@ module _ (b₁ : ℕ) (w₁ : List ℕ) (b₂ : ℕ) (w₂ : List ℕ) (holds : 
     fits₂ : a - b₂ + length s ≤ length w₂
     fits₂ = omega (arith, wider-from, wider-to)
 
-    stored-byte : (k : ℕ) → k < length w₁ → getD (replaced w₂ (a - b₂) s) (b₁ + k - b₂) 0 ≡ getD (replaced w₁ (a - b₁) s) k 0
+    stored-byte : (k : ℕ) → k < length w₁
+        → getD (replaced w₂ (a - b₂) s) (b₁ + k - b₂) 0 ≡ getD (replaced w₁ (a - b₁) s) k 0
     stored-byte k h = go (decLe (a - b₁) k) (decLe (a - b₁ + length s) k)
       where
         f : b₂ ≤ a
@@ -82,7 +87,8 @@ module _ (b₁ : ℕ) (w₁ : List ℕ) (b₂ : ℕ) (w₂ : List ℕ) (holds : 
         o : (b₂ ≤ b₁ + k) × (b₁ + k < b₂ + length w₂) × (getD w₂ (b₁ + k - b₂) 0 ≡ getD w₁ k 0)
         o = holds k h
 
-        go : Dec (a - b₁ ≤ k) → Dec (a - b₁ + length s ≤ k) → getD (replaced w₂ (a - b₂) s) (b₁ + k - b₂) 0 ≡ getD (replaced w₁ (a - b₁) s) k 0
+        go : Dec (a - b₁ ≤ k) → Dec (a - b₁ + length s ≤ k)
+            → getD (replaced w₂ (a - b₂) s) (b₁ + k - b₂) 0 ≡ getD (replaced w₁ (a - b₁) s) k 0
         go (no l) d =
             replaced-before w₂ (a - b₂) s fits₂ (b₁ + k - b₂) (omega (arith, f, o .0)) ∙ o .2
             ∙ sym (replaced-before w₁ (a - b₁) s fits₁ k (omega arith))
@@ -131,7 +137,8 @@ data Alike (b n : ℕ) (q₁ q₂ : Plan) : Type 0 where
   outside : q₁ ≡ plan.Stop NoWindow → Alike b n q₁ q₂
   same : q₂ ≡ q₁ → InWindow b n q₁ → Alike b n q₁ q₂
 
-module _ (table : List ℕ) (pb tb b₁ b₂ : ℕ) (v g : List ℕ) (c : Control) (w₁ w₂ : List ℕ) (holds : Holds b₁ w₁ b₂ w₂) where
+module _ (table : List ℕ) (pb tb b₁ b₂ : ℕ) (v g : List ℕ) (c : Control)
+    (w₁ w₂ : List ℕ) (holds : Holds b₁ w₁ b₂ w₂) where
   abbrev e₁ : Env
   e₁ = placedEnv pb tb b₁ table
 
@@ -174,6 +181,11 @@ module _ (table : List ℕ) (pb tb b₁ b₂ : ℕ) (v g : List ℕ) (c : Contro
   after (plan.Csr x) i = idle
   after (plan.Branch k) i = idle
 
+  -- an access that the first window holds is placed in the second
+  at-wider : (a : ℕ) → b₁ ≤ a → a + 16 ≤ b₁ + length w₁ → placed b₂ (length w₂) a ≡ At (a - b₂)
+  at-wider a from to =
+      placed-at b₂ (length w₂) a (wider-from b₁ w₁ b₂ w₂ holds a from to) (wider-to b₁ w₁ b₂ w₂ holds a from to)
+
   -- the address a, with what the table and the first work window say of it
   load-alike : (a : ℕ) (wd : Vreg) (t f : Found) → placed b₁ (length w₁) a ≡ f
       → Plans (loaded (orElse t f) wd table w₁) (loaded (orElse t (placed b₂ (length w₂) a)) wd table w₂)
@@ -181,7 +193,7 @@ module _ (table : List ℕ) (pb tb b₁ b₂ : ℕ) (v g : List ℕ) (c : Contro
   load-alike a wd Nowhere Nowhere p = outside refl
   load-alike a wd Nowhere (At j) p =
       let h = placed-fits b₁ (length w₁) a j p in
-      rw (placed-at b₂ (length w₂) a (wider-from b₁ w₁ b₂ w₂ holds a (h .0) (h .1)) (wider-to b₁ w₁ b₂ w₂ holds a (h .0) (h .1)), h .2)
+      rw (at-wider a (h .0) (h .1), h .2)
       (same (ap (λ s. writes wd (number s)) (wider-part b₁ w₁ b₂ w₂ holds a (h .0) (h .1))) tt)
 
   store-alike : (a x : ℕ) (t f : Found) → placed b₁ (length w₁) a ≡ f
@@ -190,10 +202,16 @@ module _ (table : List ℕ) (pb tb b₁ b₂ : ℕ) (v g : List ℕ) (c : Contro
   store-alike a x Nowhere Nowhere p = outside refl
   store-alike a x Nowhere (At j) p =
       let h = placed-fits b₁ (length w₁) a j p in
-      rw (placed-at b₂ (length w₂) a (wider-from b₁ w₁ b₂ w₂ holds a (h .0) (h .1)) (wider-to b₁ w₁ b₂ w₂ holds a (h .0) (h .1)))
+      rw (at-wider a (h .0) (h .1))
       (same refl (h .0, h .1))
 
-  control-alike : (one? trap? : Bool) (x : ℕ) → InWindow b₁ (length w₁) (cond one? (cond trap? (plan.Stop Trap) (plan.Csr x)) plan.Nothing)
+  accessed-alike : (o : Memory) (wd : Vreg) (a : ℕ)
+      → Plans (accessed o (e₁ .bases) table v w₁ wd a) (accessed o (e₂ .bases) table v w₂ wd a)
+  accessed-alike Ld wd a = load-alike a wd (placed tb (length table) a) (placed b₁ (length w₁) a) refl
+  accessed-alike St wd a = store-alike a (registerAt v wd) (placed tb (length table) a) (placed b₁ (length w₁) a) refl
+
+  control-alike : (one? trap? : Bool) (x : ℕ)
+      → InWindow b₁ (length w₁) (cond one? (cond trap? (plan.Stop Trap) (plan.Csr x)) plan.Nothing)
   control-alike true true x = tt
   control-alike true false x = tt
   control-alike false trap? x = tt
@@ -201,26 +219,25 @@ module _ (table : List ℕ) (pb tb b₁ b₂ : ℕ) (v g : List ℕ) (c : Contro
   executed-alike : (i : Instr) → Plans (executed e₁ m₁ i) (executed e₂ m₂ i)
   executed-alike (instr.Three o df wd ws wt) = same refl tt
   executed-alike (instr.Indexed o df wd ws rt) = same refl tt
-  executed-alike (instr.Imm5 o df wd ws imm) = same refl tt
+  executed-alike (instr.Imm5U o df wd ws imm) = same refl tt
+  executed-alike (instr.Imm5S o df wd ws imm) = same refl tt
   executed-alike (instr.Ldi df wd imm) = same refl tt
   executed-alike (instr.Bit o df wd ws k) = same refl tt
   executed-alike (instr.Imm8 o wd ws imm) = same refl tt
   executed-alike (instr.Shf df wd ws imm) = same refl tt
   executed-alike (instr.Element o df wd ws n) = same refl tt
+  executed-alike (instr.Insve df wd n ws) = same refl tt
   executed-alike (instr.Copy o df rd ws n) = same refl tt
   executed-alike (instr.Insert df wd n rs) = same refl tt
   executed-alike (instr.Move wd ws) = same refl tt
   executed-alike (instr.Cfcmsa rd cs) = same refl tt
-  executed-alike (instr.Ctcmsa cd rs) = same refl (control-alike (eqb (cd .0) 1) (arms (masked (generalAt g rs))) (masked (generalAt g rs)))
+  executed-alike (instr.Ctcmsa cd rs) =
+      let x = masked (generalAt g rs) in same refl (control-alike (eqb (cd .0) 1) (arms x) x)
   executed-alike (instr.Vec o wd ws wt) = same refl tt
   executed-alike (instr.Fill df wd rs) = same refl tt
   executed-alike (instr.Count o df wd ws) = same refl tt
-  executed-alike (instr.Memory Ld df wd offset rs) =
-      let a : ℕ = address df offset (generalAt g rs) in
-      load-alike a wd (placed tb (length table) a) (placed b₁ (length w₁) a) refl
-  executed-alike (instr.Memory St df wd offset rs) =
-      let a : ℕ = address df offset (generalAt g rs) in
-      store-alike a (registerAt v wd) (placed tb (length table) a) (placed b₁ (length w₁) a) refl
+  executed-alike (instr.Memory o df wd offset rs) =
+      accessed-alike (memoryAt (o .0)) wd (address df offset (generalAt g rs))
   executed-alike (instr.Branch o df wt offset) = same refl tt
   executed-alike (instr.BranchV o wt offset) = same refl tt
   executed-alike (instr.Scaled o rd rs rt sa) = same refl tt
@@ -231,14 +248,17 @@ module _ (table : List ℕ) (pb tb b₁ b₂ : ℕ) (v g : List ℕ) (c : Contro
 
   planned-alike : (i : Instr) → Plans (planOf e₁ m₁ i) (planOf e₂ m₂ i)
   unfolding planOf
-  planned-alike i = unless-alike (early (kindOf i) (c .mark) (c .on)) (executed e₁ m₁ i) (executed e₂ m₂ i) (executed-alike i)
+  planned-alike i =
+      unless-alike (early (kindOf i) (c .mark) (c .on)) (executed e₁ m₁ i) (executed e₂ m₂ i) (executed-alike i)
 
   -- one step
 
-  -- the first stops with 17, or both have the same outcome, registers and controls, the shared bytes stay shared, and no other byte changes
+  -- the first stops with 17, or both have the same outcome, registers and controls, the shared bytes stay shared, and
+  -- no other byte changes
   data Together (s₁ s₂ : Result) : Type 0 where
     apart : s₁ .outcome ≡ Stopped NoWindow → Together s₁ s₂
-    along : (o : Outcome) (v′ g′ : List ℕ) (c′ : Control) (w₁′ w₂′ : List ℕ) → s₁ ≡ result o (machine v′ g′ w₁′ c′) → s₂ ≡ result o (machine v′ g′ w₂′ c′)
+    along : (o : Outcome) (v′ g′ : List ℕ) (c′ : Control) (w₁′ w₂′ : List ℕ)
+        → s₁ ≡ result o (machine v′ g′ w₁′ c′) → s₂ ≡ result o (machine v′ g′ w₂′ c′)
         → Beside w₁′ w₂′ → Together s₁ s₂
 
   concluded-together : (q₁ q₂ : Plan) → Plans q₁ q₂ → Together (concluded b₁ q₁ m₁) (concluded b₂ q₂ m₂)
@@ -275,7 +295,8 @@ module _ (p table : List ℕ) (pb tb b₁ b₂ : ℕ) where
       → (reasonNumber (run₁ k₁ v g w₁ c .reason) ≡ 20 → ⊥)
       → EndsAlike b₁ (length w₁) b₂ w₂ (run₁ k₁ v g w₁ c) (run₂ k₂ v g w₂ c)
 
-  module _ (k₁ k₂ : ℕ) (rest : RunsAlike k₁ k₂) (v g : List ℕ) (c : Control) (w₁ w₂ : List ℕ) (holds : Holds b₁ w₁ b₂ w₂) where
+  module _ (k₁ k₂ : ℕ) (rest : RunsAlike k₁ k₂) (v g : List ℕ) (c : Control)
+      (w₁ w₂ : List ℕ) (holds : Holds b₁ w₁ b₂ w₂) where
     abbrev go-on : Result → ℕ → Env → Run
     go-on s k e = onward (s .outcome) (s .after) (runs p e k (s .after))
 
@@ -285,8 +306,10 @@ module _ (p table : List ℕ) (pb tb b₁ b₂ : ℕ) where
     abbrev second : Outcome → List ℕ → List ℕ → List ℕ → Control → Run
     second o v′ g′ w₂′ c′ = onward o (machine v′ g′ w₂′ c′) (run₂ k₂ v′ g′ w₂′ c′)
 
-    along-alike : (o : Outcome) (v′ g′ : List ℕ) (c′ : Control) (w₁′ w₂′ : List ℕ) → Beside table pb tb b₁ b₂ v g c w₁ w₂ holds w₁′ w₂′
-        → (reasonNumber (first o v′ g′ w₁′ c′ .reason) ≡ 17 → ⊥) → (reasonNumber (first o v′ g′ w₁′ c′ .reason) ≡ 20 → ⊥)
+    along-alike : (o : Outcome) (v′ g′ : List ℕ) (c′ : Control) (w₁′ w₂′ : List ℕ)
+        → Beside table pb tb b₁ b₂ v g c w₁ w₂ holds w₁′ w₂′
+        → (reasonNumber (first o v′ g′ w₁′ c′ .reason) ≡ 17 → ⊥)
+        → (reasonNumber (first o v′ g′ w₁′ c′ .reason) ≡ 20 → ⊥)
         → EndsAlike b₁ (length w₁) b₂ w₂ (first o v′ g′ w₁′ c′) (second o v′ g′ w₂′ c′)
     along-alike Finished v′ g′ c′ w₁′ w₂′ beside f17 f20 =
         let i = rest v′ g′ c′ w₁′ w₂′ (beside .held) f17 f20 in
@@ -319,7 +342,8 @@ module _ (p table : List ℕ) (pb tb b₁ b₂ : ℕ) where
     onward-alike : (s₁ s₂ : Result) → Together table pb tb b₁ b₂ v g c w₁ w₂ holds s₁ s₂
         → (reasonNumber (go-on s₁ k₁ (placedEnv pb tb b₁ table) .reason) ≡ 17 → ⊥)
         → (reasonNumber (go-on s₁ k₁ (placedEnv pb tb b₁ table) .reason) ≡ 20 → ⊥)
-        → EndsAlike b₁ (length w₁) b₂ w₂ (go-on s₁ k₁ (placedEnv pb tb b₁ table)) (go-on s₂ k₂ (placedEnv pb tb b₂ table))
+        → EndsAlike b₁ (length w₁) b₂ w₂ (go-on s₁ k₁ (placedEnv pb tb b₁ table))
+        (go-on s₂ k₂ (placedEnv pb tb b₂ table))
     onward-alike s₁ s₂ (apart h) no17 no20 = absurd (no17 (rw h))
     onward-alike s₁ s₂ (along o v′ g′ c′ w₁′ w₂′ q₁ q₂ beside) no17 no20 =
         rw (q₁, q₂) (along-alike o v′ g′ c′ w₁′ w₂′ beside (rw q₁ at no17) (rw q₁ at no20))

@@ -1,4 +1,5 @@
--- The limits are kept, row by row: the first four see lengths alone, and the last sees general register 0 and the control block.
+-- The limits are kept, row by row: the first four see lengths alone, and the last sees general register 0 and the
+-- control block.
 -- Assumes nothing.
 use mathlib.Core.Path.{_≡_, refl, sym, ap, _∙_}
 use mathlib.Core.Bool.{Bool, true, false, cond, not, _||_}
@@ -12,6 +13,7 @@ use lib.ListN.{length}
 use Rattle.isa.specs.declared.Greg.{Greg}
 use Rattle.isa.specs.declared.Instr.{Instr}
 use Rattle.isa.specs.declared.Instr.the-variants as instr
+use Rattle.isa.specs.declared.Memory.{Memory}
 use Rattle.isa.specs.declared.Memory.the-variants.{Ld, St}
 use Rattle.isa.specs.declared.Stop.the-variants.{Trap}
 use Rattle.isa.specs.declared.Vreg.{Vreg}
@@ -23,12 +25,13 @@ use Rattle.memory.proofs.Numbers.{length-bytesOf}
 use Rattle.memory.proofs.Parts.{length-replaced, part-before}
 use Rattle.element.specs.Value.{signed, wrap}
 use Rattle.element.proofs.Diff.{Diff, diff-pos, diff-neg, diff-add}
+use Rattle.ops.specs.Meaning.{memoryAt, zeroAt}
 use Rattle.plan.specs.declared.Plan.{Plan}
 use Rattle.plan.specs.declared.Plan.the-variants as plan
 use Rattle.plan.specs.declared.planned.Early.{Early}
 use Rattle.plan.specs.declared.planned.Early.the-variants.{Go, Stops}
 use Rattle.plan.specs.Numbers.{address, target}
-use Rattle.plan.specs.Plan.{planOf, executed, loaded, stored, generalAt, marked, kindOf, early, unless}
+use Rattle.plan.specs.Plan.{planOf, executed, accessed, loaded, stored, generalAt, marked, kindOf, early, unless}
 use Rattle.plan.specs.There.{There}
 use Rattle.plan.specs.Zero.{takenOf, takenVOf}
 use Rattle.state.specs.declared.control.Control.{Control}
@@ -51,7 +54,8 @@ use Rattle.demands.proofs.Demand2.{finished-step, meant-there}
 -- rows
 
 -- a table stays passed where its first row stays unbroken and the rest stays passed
-row-kept : (l l′ : Limit) (ls ls′ : List Limit) → (l .broken ≡ false → l′ .broken ≡ false) → (first ls ≡ Accepted → first ls′ ≡ Accepted)
+row-kept : (l l′ : Limit) (ls ls′ : List Limit)
+    → (l .broken ≡ false → l′ .broken ≡ false) → (first ls ≡ Accepted → first ls′ ≡ Accepted)
     → first (l ∷ ls) ≡ Accepted → first (l′ ∷ ls′) ≡ Accepted
 unfolding first
 row-kept l l′ ls ls′ f g e = go (l .broken) refl e
@@ -83,7 +87,8 @@ sound r0 c e =
     }
 
 unbroken : (r0 : ℕ) (c : Control) → Sound r0 c → stateBad r0 c ≡ false
-unbroken r0 c s = rw (eq-eqb r0 0 (s .zero), eq-eqb (c .pc % 4) 0 (s .pc), s .target, eq-eqb (masked (c .csr)) (c .csr) (s .csr))
+unbroken r0 c s =
+    rw (eq-eqb r0 0 (s .zero), eq-eqb (c .pc % 4) 0 (s .pc), s .target, eq-eqb (masked (c .csr)) (c .csr) (s .csr))
 
 -- numbers
 
@@ -139,7 +144,14 @@ module _ (e : Env) (m : Machine) where
   stored-within (Work i) a x = tt
   stored-within Outside a x = tt
 
-  control-within : (one? trap? : Bool) (x : ℕ) → Kept (cond one? (cond trap? (plan.Stop Trap) (plan.Csr (masked x))) plan.Nothing)
+  accessed-within : (o : Memory) (wd : Vreg) (a : ℕ)
+      → Kept (accessed o (e .bases) (e .table) (m .vec) (m .work) wd a)
+  accessed-within Ld wd a = loaded-within (spotOf (e .bases) (length (e .table)) (length (m .work)) a) wd
+  accessed-within St wd a =
+      stored-within (spotOf (e .bases) (length (e .table)) (length (m .work)) a) a (registerAt (m .vec) wd)
+
+  control-within : (one? trap? : Bool) (x : ℕ)
+      → Kept (cond one? (cond trap? (plan.Stop Trap) (plan.Csr (masked x))) plan.Nothing)
   control-within true true x = tt
   control-within true false x = masked-twice x
   control-within false trap? x = tt
@@ -147,26 +159,27 @@ module _ (e : Env) (m : Machine) where
   executed-within : (i : Instr) → Kept (executed e m i)
   executed-within (instr.Three o df wd ws wt) = tt
   executed-within (instr.Indexed o df wd ws rt) = tt
-  executed-within (instr.Imm5 o df wd ws imm) = tt
+  executed-within (instr.Imm5U o df wd ws imm) = tt
+  executed-within (instr.Imm5S o df wd ws imm) = tt
   executed-within (instr.Ldi df wd imm) = tt
   executed-within (instr.Bit o df wd ws k) = tt
   executed-within (instr.Imm8 o wd ws imm) = tt
   executed-within (instr.Shf df wd ws imm) = tt
   executed-within (instr.Element o df wd ws n) = tt
+  executed-within (instr.Insve df wd n ws) = tt
   executed-within (instr.Copy o df rd ws n) = tt
   executed-within (instr.Insert df wd n rs) = tt
   executed-within (instr.Move wd ws) = tt
   executed-within (instr.Cfcmsa rd cs) = tt
-  executed-within (instr.Ctcmsa cd rs) = control-within (eqb (cd .0) 1) (arms (masked (generalAt (m .gen) rs))) (generalAt (m .gen) rs)
+  executed-within (instr.Ctcmsa cd rs) =
+      control-within (eqb (cd .0) 1) (arms (masked (generalAt (m .gen) rs))) (generalAt (m .gen) rs)
   executed-within (instr.Vec o wd ws wt) = tt
   executed-within (instr.Fill df wd rs) = tt
   executed-within (instr.Count o df wd ws) = tt
-  executed-within (instr.Memory Ld df wd offset rs) = loaded-within (spotOf (e .bases) (length (e .table)) (length (m .work)) (address df offset (generalAt (m .gen) rs))) wd
-  executed-within (instr.Memory St df wd offset rs) =
-      let a : ℕ = address df offset (generalAt (m .gen) rs) in
-      stored-within (spotOf (e .bases) (length (e .table)) (length (m .work)) a) a (registerAt (m .vec) wd)
-  executed-within (instr.Branch o df wt offset) = (takenOf o df (registerAt (m .vec) wt), offset, refl)
-  executed-within (instr.BranchV o wt offset) = (takenVOf o (registerAt (m .vec) wt), offset, refl)
+  executed-within (instr.Memory o df wd offset rs) =
+      accessed-within (memoryAt (o .0)) wd (address df offset (generalAt (m .gen) rs))
+  executed-within (instr.Branch o df wt offset) = (takenOf (zeroAt (o .0)) df (registerAt (m .vec) wt), offset, refl)
+  executed-within (instr.BranchV o wt offset) = (takenVOf (zeroAt (o .0)) (registerAt (m .vec) wt), offset, refl)
   executed-within (instr.Scaled o rd rs rt sa) = tt
 
   unless-within : (s : Early) (q : Plan) → Kept q → Kept (unless s q)
@@ -210,7 +223,8 @@ module _ (p : List ℕ) (e : Env) (m : Machine) (ok : refusal p e m ≡ Accepted
   zeroth g = number (part g 0 8)
 
   -- another one with these lengths and a sound state is accepted too
-  like : (v g w : List ℕ) (c : Control) → length v ≡ length (m .vec) → length g ≡ length (m .gen) → length w ≡ length (m .work)
+  like : (v g w : List ℕ) (c : Control)
+      → length v ≡ length (m .vec) → length g ≡ length (m .gen) → length w ≡ length (m .work)
       → (Sound (zeroth (m .gen)) (m .ctl) → Sound (zeroth g) c) → refusal p e (machine v g w c) ≡ Accepted
   unfolding refusal
   like v g w c hv hg hw s =
@@ -221,23 +235,34 @@ module _ (p : List ℕ) (e : Env) (m : Machine) (ok : refusal p e m ≡ Accepted
       (row-kept _ _ _ _ (λ h. unbroken (zeroth g) c (s (sound (zeroth (m .gen)) (m .ctl) h))) (λ h. h)))))
       ok
 
-  forward : (g : List ℕ) (k : Mark) (x : ℕ) → part g 0 8 ≡ part (m .gen) 0 8 → (m .ctl .pc % 4 ≡ 0 → targetBad k ≡ false)
+  forward : (g : List ℕ) (k : Mark) (x : ℕ)
+      → part g 0 8 ≡ part (m .gen) 0 8 → (m .ctl .pc % 4 ≡ 0 → targetBad k ≡ false)
       → (masked (m .ctl .csr) ≡ m .ctl .csr → masked x ≡ x)
       → Sound (zeroth (m .gen)) (m .ctl) → Sound (zeroth g) (forwarded (m .ctl) k x)
   forward g k x same t f s =
-      record { zero = ap number same ∙ s .zero; pc = pc-four (m .ctl .mark) (m .ctl .pc) (s .pc) (s .target); target = t (s .pc); csr = f (s .csr) }
+      record {
+        zero = ap number same ∙ s .zero;
+        pc = pc-four (m .ctl .mark) (m .ctl .pc) (s .pc) (s .target);
+        target = t (s .pc);
+        csr = f (s .csr);
+      }
 
-  applied-accepted : (q : Plan) → There (e .bases .work) (length (m .work)) q → Within (m .ctl .pc) q → refusal p e (applied (e .bases .work) q m) ≡ Accepted
+  applied-accepted : (q : Plan) → There (e .bases .work) (length (m .work)) q → Within (m .ctl .pc) q
+      → refusal p e (applied (e .bases .work) q m) ≡ Accepted
   applied-accepted (plan.Stop s) h i = ok
-  applied-accepted plan.Nothing h i = like _ _ _ _ refl refl refl (forward (m .gen) Clear (m .ctl .csr) refl (λ z. refl) (λ x. x))
+  applied-accepted plan.Nothing h i =
+      like _ _ _ _ refl refl refl (forward (m .gen) Clear (m .ctl .csr) refl (λ z. refl) (λ x. x))
   applied-accepted (plan.Vector r v) h i =
       like _ _ _ _ (withRegister-length (m .vec) r (value v) (sized .vectors) h ∙ sym (sized .vectors)) refl refl
       (forward (m .gen) Clear (m .ctl .csr) refl (λ z. refl) (λ x. x))
   applied-accepted (plan.General r x) h i =
       like _ _ _ _ refl (withGeneral-length (m .gen) r x (sized .generals) h) refl
-      (forward (withGeneral (m .gen) r x) Clear (m .ctl .csr) (withGeneral-zero (m .gen) r x (sized .generals) h) (λ z. refl) (λ x. x))
+      (forward (withGeneral (m .gen) r x) Clear (m .ctl .csr) (withGeneral-zero (m .gen) r x (sized .generals) h)
+      (λ z. refl) (λ x. x))
   applied-accepted (plan.Store a v) h i =
-      like _ _ _ _ refl refl (length-replaced (m .work) (a - e .bases .work) (bytesOf 16 (value v)) (omega (arith, length-bytesOf 16 (value v))))
+      like _ _ _ _ refl refl
+      (length-replaced (m .work) (a - e .bases .work) (bytesOf 16 (value v))
+      (omega (arith, length-bytesOf 16 (value v))))
       (forward (m .gen) Clear (m .ctl .csr) refl (λ z. refl) (λ x. x))
   applied-accepted (plan.Csr x) h i = like _ _ _ _ refl refl refl (forward (m .gen) Clear x refl (λ z. refl) (λ y. i))
   applied-accepted (plan.Branch k) h (taken?, offset, same) =
@@ -247,7 +272,9 @@ module _ (p : List ℕ) (e : Env) (m : Machine) (ok : refusal p e m ≡ Accepted
 pub stays-accepted : StaysAccepted
 stays-accepted p e m ok done =
     let s = finished-step p e m done in
-    rw (s .after) (applied-accepted p e m ok (planOf e m (s .instruction)) (meant-there p e m s) (planned-within e m (s .instruction)))
+    rw (s .after)
+    (applied-accepted p e m ok (planOf e m (s .instruction)) (meant-there p e m s)
+    (planned-within e m (s .instruction)))
 
 pub steps-accepted : StepsAccepted
 steps-accepted p e n m m′ none ok = ok

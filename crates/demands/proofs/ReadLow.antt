@@ -8,25 +8,13 @@ use borrow.Author.Tests.{leb-true}
 use lib.Dec.{leb}
 use lib.Pow as pow
 use lib.Pow.{mod-mod-pow}
-use Rattle.isa.specs.declared.Width.{Width}
-use Rattle.cells.specs.declared.Cell.{Cell}
-use Rattle.cells.specs.declared.Cell.the-variants as cell
-use Rattle.cells.specs.declared.ElementCell.{ElementCell}
-use Rattle.cells.specs.declared.ElementCell.the-variants as element
-use Rattle.cells.specs.declared.Control.{Control}
-use Rattle.cells.specs.declared.Control.the-variants as control
-use Rattle.cells.specs.declared.VecCell.{VecCell}
-use Rattle.cells.specs.declared.VecCell.the-variants as vec
-use Rattle.cells.specs.declared.TwoCell.{TwoCell}
-use Rattle.cells.specs.declared.TwoCell.the-variants as two
-use Rattle.cells.specs.declared.BranchCell.{BranchCell}
-use Rattle.cells.specs.declared.BranchCell.the-variants as branch
-use Rattle.cells.specs.Tables.{twoAt, vecAt, branchAt, elementAt, controlAt}
-use Rattle.reading.specs.declared.places.Place.{Place}
-use Rattle.reading.specs.declared.places.Place.the-variants as place
 use Rattle.fields.specs.Fields.{bits}
-use Rattle.reading.specs.Reading as reading
-use Rattle.reading.specs.Reading.{readOf}
+use Rattle.ops.specs.Classes.{Class}
+use Rattle.ops.specs.Classes as class
+use Rattle.ops.specs.Formats.{Formats}
+use Rattle.ops.specs.Table.{classAt, formatsAt}
+use Rattle.reading.specs.Reading as block
+use Rattle.reading.specs.Reading.{Block, blockOf, placeIn, placeOf, readClass, readOf}
 
 module _ (w : ℕ) where
   abbrev low : ℕ
@@ -39,70 +27,61 @@ module _ (w : ℕ) where
       let n : ℕ = hi - lo + 1 in
       let l : n + lo ≤ 32 = leb-true _ _ h in
       let whole : 32 ≡ k + n + lo = omega arith in
-      ap (λ x. w % 2 ^ x / 2 ^ lo % 2 ^ n) whole ∙ ap (λ x. x % 2 ^ n) (pow.field w (k + n) lo) ∙ mod-mod-pow (w / 2 ^ lo) k n
+      ap (λ x. w % 2 ^ x / 2 ^ lo % 2 ^ n) whole ∙ ap (λ x. x % 2 ^ n) (pow.field w (k + n) lo)
+      ∙ mod-mod-pow (w / 2 ^ lo) k n
 
-  -- the class of a word in each table, with its operands
-  two-low : (c : TwoCell) → reading.twoIn c low ≡ reading.twoIn c w
-  two-low two.Reserved = refl
-  two-low two.Fill = simp (field 17 16, field 10 6, field 15 11)
-  two-low (two.Count o) = simp (field 17 16, field 10 6, field 15 11)
+  -- the operation's place, in each table
+  in-low : (b : Block) → placeIn b low ≡ placeIn b w
+  in-low block.i8 = simp (field 5 0, field 25 24)
+  in-low block.shf = refl
+  in-low block.minor = simp (field 5 0, field 25 23)
+  in-low block.elm = simp (field 25 22)
+  in-low block.elm62 = simp (field 25 22)
+  in-low block.vec = simp (field 25 21)
+  in-low block.float = simp (field 5 0, field 25 22)
+  in-low block.two = simp (field 20 18)
+  in-low block.mi10 = simp (field 5 2)
+  in-low block.branch = simp (field 25 23)
+  in-low block.special = simp (field 5 0)
+  in-low block.other = refl
 
-  vec-low : (c : VecCell) → reading.vecIn c low ≡ reading.vecIn c w
-  vec-low vec.Reserved = refl
-  vec-low vec.LeftOut = refl
-  vec-low (vec.Logic o) = simp (field 10 6, field 15 11, field 20 16)
-  vec-low vec.Two = simp (field 20 18) (two-low (twoAt (bits w 20 18)))
+  block-low : blockOf low ≡ blockOf w
+  block-low = simp (field 31 26, field 5 0, field 21 16, field 25 21)
 
-  control-low : (c : Control) → reading.controlIn c low ≡ reading.controlIn c w
-  control-low control.Reserved = refl
-  control-low control.Ctcmsa = simp (field 10 6, field 15 11)
-  control-low control.Cfcmsa = simp (field 10 6, field 15 11)
-  control-low control.Move = simp (field 10 6, field 15 11)
+  place-low : placeOf low ≡ placeOf w
+  unfolding placeOf
+  place-low = ap (λ b. placeIn b low) block-low ∙ in-low (blockOf w)
 
-  element-low : (c : ElementCell) (df : Width) (n : ℕ) → reading.elementIn c df n low ≡ reading.elementIn c df n w
-  element-low element.Reserved df n = refl
-  element-low (element.Element o) df n = simp (field 10 6, field 15 11)
-  element-low (element.Copy o) df n = simp (field 10 6, field 15 11)
-  element-low element.Insert df n = simp (field 10 6, field 15 11)
-
-  place-low : (p : Place) → reading.elementAtPlace p low ≡ reading.elementAtPlace p w
-  place-low place.Reserved = refl
-  place-low (place.At df n) = simp (field 25 22) (element-low (elementAt (bits w 25 22)) df n)
-
-  cell-low : (c : Cell) → reading.readCell c low ≡ reading.readCell c w
-  cell-low cell.Reserved = refl
-  cell-low cell.LeftOut = refl
-  cell-low cell.LeftEven = simp (field 22 22)
-  cell-low cell.LeftOdd = simp (field 22 22)
-  cell-low (cell.Three o) = simp (field 22 21, field 10 6, field 15 11, field 20 16)
-  cell-low (cell.Indexed o) = simp (field 22 21, field 10 6, field 15 11, field 20 16)
-  cell-low (cell.Imm5 o) = simp (field 22 21, field 10 6, field 15 11, field 20 16)
-  cell-low cell.Ldi = simp (field 22 21, field 10 6, field 20 11)
-  cell-low (cell.Bit o) = simp (field 22 16, field 10 6, field 15 11)
-  cell-low (cell.Imm8 o) = simp (field 10 6, field 15 11, field 23 16)
-  cell-low (cell.Shf df) = simp (field 10 6, field 15 11, field 23 16)
-  cell-low cell.Elm =
-      simp (field 21 16, field 25 22, control-low (controlAt (bits w 25 22)), place-low (reading.elementPlace (bits w 21 16)))
-  cell-low cell.Vec = simp (field 25 21) (vec-low (vecAt (bits w 25 21)))
-  cell-low (cell.Memory o) = simp (field 1 0, field 10 6, field 25 16, field 15 11)
-
-  branch-low : (c : BranchCell) → reading.branchIn c low ≡ reading.branchIn c w
-  branch-low branch.Other = refl
-  branch-low (branch.Whole o) = simp (field 20 16, field 15 0)
-  branch-low (branch.Each o) = simp (field 22 21, field 20 16, field 15 0)
+  -- the operands of each class
+  class-low : (c : Class) (f : Formats) (k : ℕ) → readClass c f k low ≡ readClass c f k w
+  class-low class.Reserved f k = simp (field 31 26)
+  class-low class.Three f k = simp (field 31 26, field 22 21, field 10 6, field 15 11, field 20 16)
+  class-low class.Indexed f k = simp (field 31 26, field 22 21, field 10 6, field 15 11, field 20 16)
+  class-low class.Imm5U f k = simp (field 31 26, field 22 21, field 10 6, field 15 11, field 20 16)
+  class-low class.Imm5S f k = simp (field 31 26, field 22 21, field 10 6, field 15 11, field 20 16)
+  class-low class.Ldi f k = simp (field 31 26, field 22 21, field 10 6, field 20 11)
+  class-low class.Bit f k = simp (field 31 26, field 22 16, field 10 6, field 15 11)
+  class-low class.Imm8 f k = simp (field 10 6, field 15 11, field 23 16)
+  class-low class.Shf f k = simp (field 31 26, field 25 24, field 10 6, field 15 11, field 23 16)
+  class-low class.Element f k = simp (field 31 26, field 21 16, field 10 6, field 15 11)
+  class-low class.Insve f k = simp (field 31 26, field 21 16, field 10 6, field 15 11)
+  class-low class.Copy f k = simp (field 31 26, field 21 16, field 10 6, field 15 11)
+  class-low class.Insert f k = simp (field 31 26, field 21 16, field 10 6, field 15 11)
+  class-low class.Move f k = simp (field 10 6, field 15 11)
+  class-low class.Cfcmsa f k = simp (field 10 6, field 15 11)
+  class-low class.Ctcmsa f k = simp (field 10 6, field 15 11)
+  class-low class.Vec f k = simp (field 10 6, field 15 11, field 20 16)
+  class-low class.Fill f k = simp (field 31 26, field 17 16, field 10 6, field 15 11)
+  class-low class.Count f k = simp (field 31 26, field 17 16, field 10 6, field 15 11)
+  class-low class.Memory f k = simp (field 31 26, field 1 0, field 10 6, field 25 16, field 15 11)
+  class-low class.Branch f k = simp (field 31 26, field 22 21, field 20 16, field 15 0)
+  class-low class.BranchV f k = simp (field 31 26, field 22 21, field 20 16, field 15 0)
+  class-low class.Scaled f k =
+      simp (field 31 26, field 10 8, field 15 11, field 25 21, field 20 16, field 7 6)
+  class-low class.LeftOut f k = refl
 
   pub read-low : readOf low ≡ readOf w
   unfolding readOf
   read-low =
-      simp (
-        field 31 26,
-        field 5 0,
-        field 25 23,
-        cell-low (reading.cellOf w),
-        field 25 21,
-        branch-low (branchAt (bits w 25 21)),
-        field 10 8,
-        field 15 11,
-        field 20 16,
-        field 7 6,
-      )
+      ap (λ k. readClass (classAt k) (formatsAt k) k low) place-low
+      ∙ class-low (classAt (placeOf w)) (formatsAt (placeOf w)) (placeOf w)

@@ -13,6 +13,7 @@ use Rattle.isa.specs.declared.Instr.{Instr}
 use Rattle.isa.specs.declared.Instr.the-variants as instr
 use Rattle.isa.specs.declared.Memory.{Memory}
 use Rattle.isa.specs.declared.Memory.the-variants.{Ld, St}
+use Rattle.isa.specs.declared.Op.{Op}
 use Rattle.isa.specs.declared.Read.{Read}
 use Rattle.isa.specs.declared.Read.the-variants as read
 use Rattle.isa.specs.declared.Stop.the-variants.{Trap}
@@ -27,7 +28,9 @@ use Rattle.plan.specs.declared.Plan.the-variants as plan
 use Rattle.plan.specs.declared.planned.Kind.{Kind}
 use Rattle.plan.specs.declared.planned.Kind.the-variants.{Branching, Switched, Free}
 use Rattle.plan.specs.Numbers.{address}
-use Rattle.plan.specs.Plan.{planOf, executed, loaded, stored, generalAt, kindOf, early, switchedEarly, unless}
+use Rattle.plan.specs.Plan.{planOf, executed, accessed, loaded, stored, generalAt, kindOf}
+use Rattle.plan.specs.Plan.{early, switchedEarly, unless}
+use Rattle.ops.specs.Meaning.{memoryAt}
 use Rattle.reading.specs.Reading.{readOf}
 use Rattle.state.specs.declared.control.Mark.{Mark}
 use Rattle.state.specs.declared.control.Mark.the-variants.{Clear, NotTaken, Taken}
@@ -40,7 +43,9 @@ use Rattle.state.specs.Windows.{placed, orElse}
 use Rattle.state.proofs.SetupLaws.{Sized, accepted}
 use Rattle.machine.specs.Numbers.{outcomeNumber}
 use Rattle.machine.specs.Step.{stepOf, outcomeOf, attempted, decided}
-use Rattle.demands.specs.Reasons.{IsBranch, format, whole, IgnoresSwitch, scaled, general, elementBytes, addressFrom, Accesses, at, SetsCsr, to, InTable, InWork, Arms, StandsAt, ReadsAs, Does, readStops, stops, FirstReason}
+use Rattle.demands.specs.Reasons.{IsBranch, format, whole, IgnoresSwitch, scaled, general, elementBytes}
+use Rattle.demands.specs.Reasons.{addressFrom, Accesses, at, SetsCsr, to, InTable, InWork, Arms}
+use Rattle.demands.specs.Reasons.{StandsAt, ReadsAs, Does, readStops, stops, FirstReason}
 use Rattle.demands.specs.Tables.{Row, row, First, none, given, passed, OneFirst, Not, Some, little}
 use Rattle.demands.proofs.Addresses.{address-from, all-inside}
 use Rattle.demands.proofs.CsrBits.{arms-reflects}
@@ -76,12 +81,14 @@ data Kinds (i : Instr) : Kind → Type 0 where
 kinds : (i : Instr) → Kinds i (kindOf i)
 kinds (instr.Three o df wd ws wt) = switched (λ h. elim h [ ]) (λ h. elim h [ ])
 kinds (instr.Indexed o df wd ws rt) = switched (λ h. elim h [ ]) (λ h. elim h [ ])
-kinds (instr.Imm5 o df wd ws imm) = switched (λ h. elim h [ ]) (λ h. elim h [ ])
+kinds (instr.Imm5U o df wd ws imm) = switched (λ h. elim h [ ]) (λ h. elim h [ ])
+kinds (instr.Imm5S o df wd ws imm) = switched (λ h. elim h [ ]) (λ h. elim h [ ])
 kinds (instr.Ldi df wd imm) = switched (λ h. elim h [ ]) (λ h. elim h [ ])
 kinds (instr.Bit o df wd ws k) = switched (λ h. elim h [ ]) (λ h. elim h [ ])
 kinds (instr.Imm8 o wd ws imm) = switched (λ h. elim h [ ]) (λ h. elim h [ ])
 kinds (instr.Shf df wd ws imm) = switched (λ h. elim h [ ]) (λ h. elim h [ ])
 kinds (instr.Element o df wd ws n) = switched (λ h. elim h [ ]) (λ h. elim h [ ])
+kinds (instr.Insve df wd n ws) = switched (λ h. elim h [ ]) (λ h. elim h [ ])
 kinds (instr.Copy o df rd ws n) = switched (λ h. elim h [ ]) (λ h. elim h [ ])
 kinds (instr.Insert df wd n rs) = switched (λ h. elim h [ ]) (λ h. elim h [ ])
 kinds (instr.Move wd ws) = switched (λ h. elim h [ ]) (λ h. elim h [ ])
@@ -146,9 +153,12 @@ module _ (e : Env) (m : Machine) (sized : Sized e m) where
   in-work : (a : ℕ) → a < 2 ^ 64 → Reflects (holds (e .bases .work) (length (m .work)) a) (InWork e m a)
   in-work a h = all-inside (e .bases .work) (length (m .work)) a (sized .work-small) (sized .work) h
 
-  module _ (df : Width) (wd : Vreg) (offset : ℕ) (rs : Greg) where
+  module _ (k : Op) (df : Width) (wd : Vreg) (offset : ℕ) (rs : Greg) where
     abbrev a : ℕ
     a = address df offset (generalAt (m .gen) rs)
+
+    abbrev access : Instr
+    access = instr.Memory k df wd offset rs
 
     -- the address, by either definition
     same : addressFrom (general m rs) offset (elementBytes df) ≡ a
@@ -159,44 +169,55 @@ module _ (e : Env) (m : Machine) (sized : Sized e m) where
     unfolding address
     below = wrap-below 64 _
 
-    module _ (o : Memory) (f : Memory → ℕ → Type 0) where
-      access : f o a → Accesses m f (instr.Memory o df wd offset rs)
-      access h = at {o = o} {df = df} {offset = offset} {rs = rs} (rw same h)
+    module _ (f : Memory → ℕ → Type 0) where
+      accesses : f (memoryAt (k .0)) a → Accesses m f access
+      accesses h = at {k = k} {df = df} {offset = offset} {rs = rs} (rw same h)
 
-      accessed : Accesses m f (instr.Memory o df wd offset rs) → f o a
-      accessed (at h) = rw same at h
+      accessing : Accesses m f access → f (memoryAt (k .0)) a
+      accessing (at h) = rw same at h
 
-    no-csr : (o : Memory) → Not (SetsCsr m Arms (instr.Memory o df wd offset rs))
-    no-csr o h = elim h [ ]
+    no-csr : Not (SetsCsr m Arms access)
+    no-csr h = elim h [ ]
 
-    not-store : Not (Ld ≡ St)
-    not-store h = differ (cc)
+    -- a load that one of the windows holds
+    load-passes : memoryAt (k .0) ≡ Ld → Not (Nowhere? (memoryAt (k .0)) a) → First (risks access) 0
+    load-passes p n =
+        let not-store : Not (memoryAt (k .0) ≡ St) = λ q. let l : Ld ≡ St = sym p ∙ q in differ (cc) in
+        passed (λ h. n (accessing Nowhere? h))
+        (passed (λ h. not-store (accessing ReadOnly? h .0)) (passed no-csr none))
 
-    load-first : (t w : Bool) → Reflects t (InTable e a) → Reflects w (InWork e m a)
-        → First (risks (instr.Memory Ld df wd offset rs))
+    load-first : memoryAt (k .0) ≡ Ld → (t w : Bool) → Reflects t (InTable e a) → Reflects w (InWork e m a)
+        → First (risks access)
         (outcomeNumber
         (outcomeOf (loaded
         (orElse (cond t (At (a - e .bases .table)) Nowhere) (cond w (At (a - e .bases .work)) Nowhere)) wd (e .table)
         (m .work))))
-    load-first true w x y =
-        passed (λ h. accessed Ld Nowhere? h .0 (x .yes refl))
-        (passed (λ h. not-store (accessed Ld ReadOnly? h .0)) (passed (no-csr Ld) none))
-    load-first false true x y =
-        passed (λ h. accessed Ld Nowhere? h .1 (y .yes refl))
-        (passed (λ h. not-store (accessed Ld ReadOnly? h .0)) (passed (no-csr Ld) none))
-    load-first false false x y = given (access Ld Nowhere? (x .no refl, y .no refl))
+    load-first p true w x y = load-passes p (λ h. h .0 (x .yes refl))
+    load-first p false true x y = load-passes p (λ h. h .1 (y .yes refl))
+    load-first p false false x y = given (accesses Nowhere? (x .no refl, y .no refl))
 
-    store-first : (t w : Bool) (v : ℕ) → Reflects t (InTable e a) → Reflects w (InWork e m a)
-        → First (risks (instr.Memory St df wd offset rs))
+    store-first : memoryAt (k .0) ≡ St → (t w : Bool) (v : ℕ) → Reflects t (InTable e a) → Reflects w (InWork e m a)
+        → First (risks access)
         (outcomeNumber
         (outcomeOf (stored
         (orElse (cond t (At (a - e .bases .table)) Nowhere) (cond w (At (a - e .bases .work)) Nowhere)) a v)))
-    store-first true w v x y =
-        passed (λ h. accessed St Nowhere? h .0 (x .yes refl)) (given (access St ReadOnly? (refl, x .yes refl)))
-    store-first false true v x y =
-        passed (λ h. accessed St Nowhere? h .1 (y .yes refl))
-        (passed (λ h. x .no refl (accessed St ReadOnly? h .1)) (passed (no-csr St) none))
-    store-first false false v x y = given (access St Nowhere? (x .no refl, y .no refl))
+    store-first p true w v x y =
+        passed (λ h. accessing Nowhere? h .0 (x .yes refl)) (given (accesses ReadOnly? (p, x .yes refl)))
+    store-first p false true v x y =
+        passed (λ h. accessing Nowhere? h .1 (y .yes refl))
+        (passed (λ h. x .no refl (accessing ReadOnly? h .1)) (passed no-csr none))
+    store-first p false false v x y = given (accesses Nowhere? (x .no refl, y .no refl))
+
+    access-first : (o : Memory) → memoryAt (k .0) ≡ o
+        → First (risks access)
+        (outcomeNumber (outcomeOf (accessed o (e .bases) (e .table) (m .vec) (m .work) wd a)))
+    unfolding placed
+    access-first Ld p =
+        load-first p (holds (e .bases .table) (length (e .table)) a) (holds (e .bases .work) (length (m .work)) a)
+        (in-table a below) (in-work a below)
+    access-first St p =
+        store-first p (holds (e .bases .table) (length (e .table)) a) (holds (e .bases .work) (length (m .work)) a)
+        (registerAt (m .vec) wd) (in-table a below) (in-work a below)
 
   -- CTCMSA
   module _ (cd : Creg) (rs : Greg) where
@@ -228,15 +249,16 @@ module _ (e : Env) (m : Machine) (sized : Sized e m) where
   quiet n r c = passed n (passed r (passed c none))
 
   executed-first : (i : Instr) → First (risks i) (outcomeNumber (outcomeOf (executed e m i)))
-  unfolding placed
   executed-first (instr.Three o df wd ws wt) = quiet (λ h. elim h [ ]) (λ h. elim h [ ]) (λ h. elim h [ ])
   executed-first (instr.Indexed o df wd ws rt) = quiet (λ h. elim h [ ]) (λ h. elim h [ ]) (λ h. elim h [ ])
-  executed-first (instr.Imm5 o df wd ws imm) = quiet (λ h. elim h [ ]) (λ h. elim h [ ]) (λ h. elim h [ ])
+  executed-first (instr.Imm5U o df wd ws imm) = quiet (λ h. elim h [ ]) (λ h. elim h [ ]) (λ h. elim h [ ])
+  executed-first (instr.Imm5S o df wd ws imm) = quiet (λ h. elim h [ ]) (λ h. elim h [ ]) (λ h. elim h [ ])
   executed-first (instr.Ldi df wd imm) = quiet (λ h. elim h [ ]) (λ h. elim h [ ]) (λ h. elim h [ ])
   executed-first (instr.Bit o df wd ws k) = quiet (λ h. elim h [ ]) (λ h. elim h [ ]) (λ h. elim h [ ])
   executed-first (instr.Imm8 o wd ws imm) = quiet (λ h. elim h [ ]) (λ h. elim h [ ]) (λ h. elim h [ ])
   executed-first (instr.Shf df wd ws imm) = quiet (λ h. elim h [ ]) (λ h. elim h [ ]) (λ h. elim h [ ])
   executed-first (instr.Element o df wd ws n) = quiet (λ h. elim h [ ]) (λ h. elim h [ ]) (λ h. elim h [ ])
+  executed-first (instr.Insve df wd n ws) = quiet (λ h. elim h [ ]) (λ h. elim h [ ]) (λ h. elim h [ ])
   executed-first (instr.Copy o df rd ws n) = quiet (λ h. elim h [ ]) (λ h. elim h [ ]) (λ h. elim h [ ])
   executed-first (instr.Insert df wd n rs) = quiet (λ h. elim h [ ]) (λ h. elim h [ ]) (λ h. elim h [ ])
   executed-first (instr.Move wd ws) = quiet (λ h. elim h [ ]) (λ h. elim h [ ]) (λ h. elim h [ ])
@@ -247,16 +269,7 @@ module _ (e : Env) (m : Machine) (sized : Sized e m) where
   executed-first (instr.Vec o wd ws wt) = quiet (λ h. elim h [ ]) (λ h. elim h [ ]) (λ h. elim h [ ])
   executed-first (instr.Fill df wd rs) = quiet (λ h. elim h [ ]) (λ h. elim h [ ]) (λ h. elim h [ ])
   executed-first (instr.Count o df wd ws) = quiet (λ h. elim h [ ]) (λ h. elim h [ ]) (λ h. elim h [ ])
-  executed-first (instr.Memory Ld df wd offset rs) =
-      let at = a df wd offset rs in
-      load-first df wd offset rs (holds (e .bases .table) (length (e .table)) at)
-      (holds (e .bases .work) (length (m .work)) at)
-      (in-table at (below df wd offset rs)) (in-work at (below df wd offset rs))
-  executed-first (instr.Memory St df wd offset rs) =
-      let at = a df wd offset rs in
-      store-first df wd offset rs (holds (e .bases .table) (length (e .table)) at)
-      (holds (e .bases .work) (length (m .work)) at)
-      (registerAt (m .vec) wd) (in-table at (below df wd offset rs)) (in-work at (below df wd offset rs))
+  executed-first (instr.Memory o df wd offset rs) = access-first o df wd offset rs (memoryAt (o .0)) refl
   executed-first (instr.Branch o df wt offset) = quiet (λ h. elim h [ ]) (λ h. elim h [ ]) (λ h. elim h [ ])
   executed-first (instr.BranchV o wt offset) = quiet (λ h. elim h [ ]) (λ h. elim h [ ]) (λ h. elim h [ ])
   executed-first (instr.Scaled o rd rs rt sa) = quiet (λ h. elim h [ ]) (λ h. elim h [ ]) (λ h. elim h [ ])
@@ -289,7 +302,9 @@ module _ (p : List ℕ) (e : Env) (m : Machine) where
       likewise
       (λ h.
       let inside : (m .ctl .pc - e .bases .program) / 4 < length p / 4 = omega (arith, h .0 .0, h .1) in
-      let at : m .ctl .pc ≡ e .bases .program + 4 * ((m .ctl .pc - e .bases .program) / 4) = omega (arith, h .0 .0, h .0 .1) in
+      let at : m .ctl .pc ≡ e .bases .program + 4 * ((m .ctl .pc - e .bases .program) / 4) =
+      omega (arith, h .0 .0, h .0 .1)
+      in
       record { number = (m .ctl .pc - e .bases .program) / 4; holds = (inside, at) })
       (λ s. let i = s .holds .0 in let k = s .holds .1 in ((omega arith, omega arith), omega arith))
       (and-reflects _ _

@@ -15,14 +15,14 @@ use Rattle.isa.specs.declared.Instr.{Instr}
 use Rattle.isa.specs.declared.Instr.the-variants as instr
 use Rattle.isa.specs.declared.Memory.{Memory}
 use Rattle.isa.specs.declared.Memory.the-variants.{St}
+use Rattle.isa.specs.declared.Op.{Op}
 use Rattle.isa.specs.declared.Read.{Read}
 use Rattle.isa.specs.declared.Read.the-variants as read
-use Rattle.isa.specs.declared.Scaled.{Scaled}
 use Rattle.isa.specs.declared.Unread.the-variants.{Unassigned, LeftOut, Other}
 use Rattle.isa.specs.declared.Vreg.{Vreg}
 use Rattle.isa.specs.declared.Width.{Width}
 use Rattle.isa.specs.declared.Width.the-variants.{B, H, W, D}
-use Rattle.isa.specs.declared.Zero.{Zero}
+use Rattle.ops.specs.Meaning.{memoryAt}
 use Rattle.reading.specs.Reading.{readOf}
 use Rattle.state.specs.declared.control.Mark.the-variants.{Clear}
 use Rattle.state.specs.declared.setup.Setup.the-variants.{Accepted}
@@ -40,12 +40,12 @@ use Rattle.demands.specs.Tables.{Row, row, First, Not, Some, little, Bit
 
 -- a branch: BZ and BNZ with a format, BZ.V and BNZ.V
 pub data IsBranch : Instr → Type 0 where
-  format : {o : Zero} {df : Width} {wt : Vreg} {offset : ℕ} → IsBranch (instr.Branch o df wt offset)
-  whole : {o : Zero} {wt : Vreg} {offset : ℕ} → IsBranch (instr.BranchV o wt offset)
+  format : {k : Op} {df : Width} {wt : Vreg} {offset : ℕ} → IsBranch (instr.Branch k df wt offset)
+  whole : {k : Op} {wt : Vreg} {offset : ℕ} → IsBranch (instr.BranchV k wt offset)
 
 -- LSA and DLSA ignore the switch, so all others do not
 pub data IgnoresSwitch : Instr → Type 0 where
-  scaled : {o : Scaled} {rd rs rt : Greg} {sa : ℕ} → IgnoresSwitch (instr.Scaled o rd rs rt sa)
+  scaled : {k : Op} {rd rs rt : Greg} {sa : ℕ} → IgnoresSwitch (instr.Scaled k rd rs rt sa)
 
 -- general register r: eight bytes
 abbrev pub general : Machine → Greg → ℕ
@@ -63,9 +63,9 @@ addressFrom x field n = cond (ltb field 512) (x + field * n) (x + field * n + 2 
 
 -- a load or a store of which f holds, with the address of its first byte
 pub data Accesses (m : Machine) (f : Memory → ℕ → Type 0) : Instr → Type 0 where
-  at : {o : Memory} {df : Width} {wd : Vreg} {offset : ℕ} {rs : Greg}
-      → f o (addressFrom (general m rs) offset (elementBytes df))
-      → Accesses m f (instr.Memory o df wd offset rs)
+  at : {k : Op} {df : Width} {wd : Vreg} {offset : ℕ} {rs : Greg}
+      → f (memoryAt (k .0)) (addressFrom (general m rs) offset (elementBytes df))
+      → Accesses m f (instr.Memory k df wd offset rs)
 
 -- a CTCMSA to MSACSR, control register 1, of a value of which f holds
 pub data SetsCsr (m : Machine) (f : ℕ → Type 0) : Instr → Type 0 where

@@ -1,27 +1,22 @@
--- What the operation of each encoding class makes of registers: d, s and t are the old wd, ws and wt, n the bits of the format.
+-- What the operation of each encoding class makes of registers: d, s and t are the old wd, ws and wt, n the bits of the
+-- format.
 use mathlib.Core.Bool.{Bool, true, false}
 use Prim.Native.Nat.{ℕ, _/_, _%_}
 use Rattle.isa.specs.declared.Arith.{Arith}
-use Rattle.isa.specs.declared.Arith.the-variants as arith
 use Rattle.isa.specs.declared.BitOp.{BitOp}
 use Rattle.isa.specs.declared.BitOp.the-variants as bit
 use Rattle.isa.specs.declared.Count.{Count}
-use Rattle.isa.specs.declared.Element.{Element}
-use Rattle.isa.specs.declared.Element.the-variants.{Sldi, Splati, Insve}
-use Rattle.isa.specs.declared.Imm5.{Imm5}
-use Rattle.isa.specs.declared.Imm5.the-variants as imm5
 use Rattle.isa.specs.declared.Indexed.{Indexed}
 use Rattle.isa.specs.declared.Indexed.the-variants.{Sld, Splat}
 use Rattle.isa.specs.declared.Logic.{Logic}
 use Rattle.isa.specs.declared.Three.{Three}
 use Rattle.isa.specs.declared.Three.the-variants as three
-use Rattle.isa.specs.Immediates.{imm5Signed}
 use Rattle.lanes.specs.declared.Lane.the-variants as lane
 use Rattle.element.specs.Value.{signed, wrap}
 use Rattle.vectors.specs.Register.{element, whole, together, filled}
 use Rattle.each.specs.Lanes.{eachLane}
 use Rattle.logic.specs.Logic.{logicBit}
-use Rattle.permute.specs.Permute.{packed, chosenByControl, slidByte, withElement}
+use Rattle.permute.specs.Permute.{packed, chosenByControl, slidByte}
 
 abbrev pub threeOf : Three → ℕ → ℕ → ℕ → ℕ → ℕ
 threeOf (three.Arith o) n d s t = eachLane (lane.Arith o) n d s t
@@ -30,7 +25,8 @@ threeOf (three.Rounding o) n d s t = eachLane (lane.Bit (bit.Rounding o)) n d s 
 threeOf (three.Pack o) n d s t = whole n (packed o n s t)
 threeOf three.Vshf n d s t = whole n (chosenByControl n d s t)
 
--- SLD and SLDI by x columns, and SPLAT and SPLATI of element x, each modulo the element count
+-- SLD and SLDI by x columns, and SPLAT and SPLATI of element x, each modulo the element count:
+-- x is a general register, or the index of ELM
 abbrev pub slid : ℕ → ℕ → ℕ → ℕ → ℕ
 slid n d s x = whole 8 (slidByte (128 / n) (x % (128 / n)) d s)
 
@@ -41,23 +37,14 @@ abbrev pub indexedOf : Indexed → ℕ → ℕ → ℕ → ℕ → ℕ
 indexedOf Sld n d s x = slid n d s x
 indexedOf Splat n d s x = splatted n s x
 
-abbrev pub elementOf : Element → ℕ → ℕ → ℕ → ℕ → ℕ
-elementOf Sldi n d s i = slid n d s i
-elementOf Splati n d s i = splatted n s i
-elementOf Insve n d s i = whole n (withElement i (element n s 0) n d)
-
 -- the five bits of an immediate, as a signed number in 64 bits or as they are
 abbrev pub immediate : Bool → ℕ → ℕ
 immediate true imm = wrap 64 (signed 5 (imm % 32))
 immediate false imm = imm % 32
 
-abbrev pub imm5Arith : Imm5 → Arith
-imm5Arith (imm5.Basic o) = arith.Basic o
-imm5Arith (imm5.Compare o) = arith.Compare o
-
 -- the immediate, modulo 2^n, stands in every element in the place of wt
-abbrev pub imm5Of : Imm5 → ℕ → ℕ → ℕ → ℕ
-imm5Of o n s imm = eachLane (lane.Arith (imm5Arith o)) n s s (filled n (immediate (imm5Signed o) imm))
+abbrev pub imm5Of : Arith → Bool → ℕ → ℕ → ℕ → ℕ
+imm5Of o signed? n s imm = eachLane (lane.Arith o) n s s (filled n (immediate signed? imm))
 
 abbrev pub bitOf : BitOp → ℕ → ℕ → ℕ → ℕ → ℕ
 bitOf o n d s m = eachLane (lane.Bit o) n d s (filled n m)

@@ -1,26 +1,22 @@
-// What the operation of each encoding class makes of vector registers: the operations on registers behind the enums of the decoded
-// instruction. d, s and t are the old wd, ws and wt; an immediate stands in every element of t.
+// What the operation of each encoding class makes of vector registers: the operations on registers behind the enums.
+// d, s and t are the old wd, ws and wt; an immediate stands in every element of t.
 ghost use mathlib.Core.Path.{_≡_};
 ghost use Rattle.isa.specs.Widths.{bits};
 ghost use Rattle.memory.specs.Value.{value, register};
-ghost use Rattle.forms.specs.Forms.{threeOf, indexedOf, imm5Arith, imm5Of, bitOf, imm8Of, elementOf, countOf};
+ghost use Rattle.forms.specs.Forms.{threeOf, indexedOf, imm5Of, bitOf, imm8Of, countOf};
 ghost use Rattle.forms.specs.Forms as forms;
 use each::each;
 use isa::Arith;
 use isa::BitOp;
 use isa::Count;
-use isa::Element;
-use isa::Imm5;
 use isa::Indexed;
 use isa::Logic;
 use isa::Three;
 use isa::Width;
-use isa::immediates::imm5_signed;
 use lanes::Lane;
 use logic::logic;
 use memory::Register;
 use permute::moves::extend;
-use permute::moves::insve;
 use permute::moves::splat;
 use permute::pack;
 use permute::slide;
@@ -40,7 +36,7 @@ pub fn three(op: Three, w: Width, d: Register, s: Register, t: Register) -> Regi
     }
 }
 
-// 3R with the general register x in the place of wt.
+// 3R with the general register x in the place of wt, and ELM with the index x there.
 pub fn indexed(op: Indexed, w: Width, d: Register, s: Register, x: u64) -> Register
     ensures { λ r. ⌜ r ≡ register (indexedOf op (bits w) (value d) (value s) x) ⌝ }
 {
@@ -61,21 +57,12 @@ fn immediate(signed: bool, imm: u8) -> u64
     bits
 }
 
-fn imm5_arith(op: Imm5) -> Arith
-    ensures { λ r. ⌜ r ≡ imm5Arith op ⌝ }
-{
-    match op {
-        Imm5::Basic(o) => Arith::Basic(o),
-        Imm5::Compare(o) => Arith::Compare(o),
-    }
-}
-
 // I5, but for LDI.
-pub fn imm5(op: Imm5, w: Width, s: Register, imm: u8) -> Register
-    ensures { λ r. ⌜ r ≡ register (imm5Of op (bits w) (value s) imm) ⌝ }
+pub fn imm5(op: Arith, signed: bool, w: Width, s: Register, imm: u8) -> Register
+    ensures { λ r. ⌜ r ≡ register (imm5Of op signed (bits w) (value s) imm) ⌝ }
 {
-    let t = spread(w, immediate(imm5_signed(op), imm));
-    each(Lane::Arith(imm5_arith(op)), w, s, s, t)
+    let t = spread(w, immediate(signed, imm));
+    each(Lane::Arith(op), w, s, s, t)
 }
 
 pub fn bit(op: BitOp, w: Width, d: Register, s: Register, m: u8) -> Register
@@ -89,18 +76,6 @@ pub fn imm8(op: Logic, d: Register, s: Register, imm: u8) -> Register
     ensures { λ r. ⌜ r ≡ register (imm8Of op (value d) (value s) imm) ⌝ }
 {
     logic(op, d, s, spread(Width::B, imm as u64))
-}
-
-// ELM between vector registers.
-pub fn element(op: Element, w: Width, d: Register, s: Register, n: u8) -> Register
-    ensures { λ r. ⌜ r ≡ register (elementOf op (bits w) (value d) (value s) n) ⌝ }
-{
-    let i = n as u64;
-    match op {
-        Element::Sldi => slide(w, d, s, i),
-        Element::Splati => splat(w, s, i),
-        Element::Insve => insve(w, d, i, s),
-    }
 }
 
 // 2R, but for FILL.

@@ -1,3 +1,2 @@
-pub mod Immediates
 pub mod Numbers
 pub mod Widths

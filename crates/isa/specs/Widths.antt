@@ -1,5 +1,7 @@
 -- The four data formats in numbers, Table 3.10 and section 3.3.
+use mathlib.Core.List.{[], _∷_}
 use Prim.Native.Nat.{ℕ}
+use lib.ListN.{getD}
 use Rattle.isa.specs.declared.Width.{Width}
 use Rattle.isa.specs.declared.Width.the-variants.{B, H, W, D}
 
@@ -23,3 +25,13 @@ elements B = 16
 elements H = 8
 elements W = 4
 elements D = 2
+
+-- Table 3.10: a format's two bits, and the format of two bits
+abbrev pub widthCode : Width → ℕ
+widthCode B = 0
+widthCode H = 1
+widthCode W = 2
+widthCode D = 3
+
+abbrev pub widthAt : ℕ → Width
+widthAt k = getD (B ∷ H ∷ W ∷ D ∷ []) k D

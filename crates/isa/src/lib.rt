@@ -1,7 +1,9 @@
-// The decoded instruction: what a word says, and nothing of how it is laid out in bits or what it does.
-// The operation enums follow the rows of the manual's Tables 3.19 to 3.28, so none has more than eight variants. Where one operation
-// stands in two formats (ADDV and ADDVI, SLL and SLLI, AND.V and ANDI.B) both hold the same enum: its meaning is then said once.
-pub mod immediates;
+// The decoded instruction: what a word says, and nothing of how it is laid out in bits or what it does. An operation
+// in it is its place in the table of operations (crate ops). The enums are what the operations of that table do; they
+// follow the rows of the manual's Tables 3.19 to 3.28, so none has more than eight variants. Where one operation
+// stands in two formats (ADDV and ADDVI, SLL and SLLI, AND.V and ANDI.B, SLD and SLDI) both do what one enum says:
+// its meaning is then said once.
+pub mod widths;
 
 // The three register files, kept apart as the manual keeps wd, rs and cs apart.
 pub struct Vreg(pub u8);
@@ -9,6 +11,9 @@ pub struct Vreg(pub u8);
 pub struct Greg(pub u8);
 
 pub struct Creg(pub u8);
+
+// An operation, by its place in the table of operations.
+pub struct Op(pub u16);
 
 // The data formats, Table 3.10.
 pub enum Width {
@@ -94,7 +99,7 @@ pub enum Across {
     HsubU,
 }
 
-// Every operation of 3R that works on numbers: Table 4.1 but SAT, and the compares of Table 4.8.
+// Every operation of 3R and I5 that works on numbers: Table 4.1 but SAT, and the compares of Table 4.8.
 pub enum Arith {
     Basic(Basic),
     Absolute(Absolute),
@@ -140,7 +145,7 @@ pub enum Pack {
     Ilvod,
 }
 
-// 3R 010100, with a general register in place of wt.
+// 3R 010100 with a general register in place of wt, and ELM with an element's index there.
 pub enum Indexed {
     Sld,
     Splat,
@@ -153,12 +158,6 @@ pub enum Three {
     Rounding(Rounding),
     Pack(Pack),
     Vshf,
-}
-
-// What I5 does, Table 3.20, but for LDI.
-pub enum Imm5 {
-    Basic(Basic),
-    Compare(Compare),
 }
 
 // What BIT does, Table 3.28.
@@ -177,13 +176,6 @@ pub enum Logic {
     Bmnz,
     Bmz,
     Bsel,
-}
-
-// ELM, Table 3.26: between vector registers, with an element's index.
-pub enum Element {
-    Sldi,
-    Splati,
-    Insve,
 }
 
 // ELM: from an element to a general register. COPY_U has no D form.
@@ -217,24 +209,32 @@ pub enum Scaled {
     Dlsa,
 }
 
-// An instruction, by its encoding class. Immediates, offsets and the LSA shift are the field's bits, not yet signed or scaled.
+// An instruction, by its class: which operands it has, and where they stand in its word. A class of one operation
+// names none. Immediates, offsets and the LSA shift are the field's bits, not yet signed or scaled.
 pub enum Instr {
     Three {
-        op: Three,
+        op: Op,
         df: Width,
         wd: Vreg,
         ws: Vreg,
         wt: Vreg,
     },
     Indexed {
-        op: Indexed,
+        op: Op,
         df: Width,
         wd: Vreg,
         ws: Vreg,
         rt: Greg,
     },
-    Imm5 {
-        op: Imm5,
+    Imm5U {
+        op: Op,
+        df: Width,
+        wd: Vreg,
+        ws: Vreg,
+        imm: u8,
+    },
+    Imm5S {
+        op: Op,
         df: Width,
         wd: Vreg,
         ws: Vreg,
@@ -246,14 +246,14 @@ pub enum Instr {
         imm: u16,
     },
     Bit {
-        op: BitOp,
+        op: Op,
         df: Width,
         wd: Vreg,
         ws: Vreg,
         m: u8,
     },
     Imm8 {
-        op: Logic,
+        op: Op,
         wd: Vreg,
         ws: Vreg,
         imm: u8,
@@ -265,14 +265,20 @@ pub enum Instr {
         imm: u8,
     },
     Element {
-        op: Element,
+        op: Op,
         df: Width,
         wd: Vreg,
         ws: Vreg,
         n: u8,
     },
+    Insve {
+        df: Width,
+        wd: Vreg,
+        n: u8,
+        ws: Vreg,
+    },
     Copy {
-        op: Copied,
+        op: Op,
         df: Width,
         rd: Greg,
         ws: Vreg,
@@ -297,7 +303,7 @@ pub enum Instr {
         rs: Greg,
     },
     Vec {
-        op: Logic,
+        op: Op,
         wd: Vreg,
         ws: Vreg,
         wt: Vreg,
@@ -308,31 +314,31 @@ pub enum Instr {
         rs: Greg,
     },
     Count {
-        op: Count,
+        op: Op,
         df: Width,
         wd: Vreg,
         ws: Vreg,
     },
     Memory {
-        op: Memory,
+        op: Op,
         df: Width,
         wd: Vreg,
         offset: u16,
         rs: Greg,
     },
     Branch {
-        op: Zero,
+        op: Op,
         df: Width,
         wt: Vreg,
         offset: u16,
     },
     BranchV {
-        op: Zero,
+        op: Op,
         wt: Vreg,
         offset: u16,
     },
     Scaled {
-        op: Scaled,
+        op: Op,
         rd: Greg,
         rs: Greg,
         rt: Greg,

@@ -7,8 +7,6 @@ use native.Mathlib.Omega.{arith}
 use borrow.Author.Tests.{leb-true, eq-eqb, ne-eqb}
 use lib.Dec.{eqb, leb}
 use lib.ListN.{length, length-append}
-use Rattle.isa.specs.declared.Element.{Element}
-use Rattle.isa.specs.declared.Element.the-variants as element
 use Rattle.isa.specs.declared.Instr.{Instr}
 use Rattle.isa.specs.declared.Instr.the-variants as instr
 use Rattle.isa.specs.declared.Read.{Read}
@@ -26,10 +24,10 @@ use Rattle.text.specs.Text.{bytes, Room, padded}
 use Rattle.text.specs.Numerals.{hex}
 use Rattle.text.proofs.Numerals.{decimal-length, hex-length}
 use Rattle.operands.proofs.Lengths.{mostOf, operands-fit}
-use Rattle.names.specs.Names.{name}
-use Rattle.names.proofs.Names.{length-small}
+use Rattle.ops.proofs.Names.{name-short}
 use Rattle.shown.specs.Shown.{shownOf}
-use Rattle.listing.specs.Listing.{formText, shownText, readText, textOf, lineOf, partText, lineSaid, lineAnswer, Lists}
+use Rattle.listing.specs.Listing.{formText, shownText, readText, textOf, lineOf, partText}
+use Rattle.listing.specs.Listing.{lineSaid, lineAnswer, Lists}
 
 -- the text, written out
 pub line-text : (a w : ℕ) → hex a ++ bytes ": " ++ hex w ++ bytes " " ++ textOf w ≡ lineOf a w
@@ -45,28 +43,28 @@ line-parts line at a w =
 -- ---- how long it may be
 
 small : (i : Instr) → leb (mostOf (shownOf i)) 29 ≡ true
-small (instr.Three o df wd ws wt) = refl
-small (instr.Indexed o df wd ws rt) = refl
-small (instr.Imm5 o df wd ws imm) = refl
+small (instr.Three k df wd ws wt) = refl
+small (instr.Indexed k df wd ws rt) = refl
+small (instr.Imm5U k df wd ws imm) = refl
+small (instr.Imm5S k df wd ws imm) = refl
 small (instr.Ldi df wd imm) = refl
-small (instr.Bit o df wd ws m) = refl
-small (instr.Imm8 o wd ws imm) = refl
+small (instr.Bit k df wd ws m) = refl
+small (instr.Imm8 k wd ws imm) = refl
 small (instr.Shf df wd ws imm) = refl
-small (instr.Element element.Sldi df wd ws n) = refl
-small (instr.Element element.Splati df wd ws n) = refl
-small (instr.Element element.Insve df wd ws n) = refl
-small (instr.Copy o df rd ws n) = refl
+small (instr.Element k df wd ws n) = refl
+small (instr.Insve df wd n ws) = refl
+small (instr.Copy k df rd ws n) = refl
 small (instr.Insert df wd n rs) = refl
 small (instr.Move wd ws) = refl
 small (instr.Cfcmsa rd cs) = refl
 small (instr.Ctcmsa cd rs) = refl
-small (instr.Vec o wd ws wt) = refl
+small (instr.Vec k wd ws wt) = refl
 small (instr.Fill df wd rs) = refl
-small (instr.Count o df wd ws) = refl
-small (instr.Memory o df wd offset rs) = refl
-small (instr.Branch o df wt offset) = refl
-small (instr.BranchV o wt offset) = refl
-small (instr.Scaled o rd rs rt sa) = refl
+small (instr.Count k df wd ws) = refl
+small (instr.Memory k df wd offset rs) = refl
+small (instr.Branch k df wt offset) = refl
+small (instr.BranchV k wt offset) = refl
+small (instr.Scaled k rd rs rt sa) = refl
 
 form-fits : (f : Form) → length (formText f) ≤ 2
 form-fits Bare = omega arith
@@ -74,7 +72,9 @@ form-fits (Each df) = omega arith
 form-fits Whole = omega arith
 
 shown-fits : (s : Shown) → mostOf s ≤ 29 → length (shownText s) ≤ 40
-shown-fits s h = simp length-append (omega (arith, length-small (s .name), form-fits (s .form), simp length-append at (operands-fit s)))
+shown-fits s h =
+    simp length-append
+    (omega (arith, name-short (s .name), form-fits (s .form), simp length-append at (operands-fit s)))
 
 read-fits : (r : Read) → length (readText r) ≤ 40
 read-fits (read.Not u) = omega (arith, decimal-length (unreadNumber u))
@@ -102,7 +102,8 @@ module _ (line : List ℕ) (a w : ℕ) where
         record { said = rw (t, e .0); line = rw t (e .1 ∙ ap (λ (n : ℕ). padded n (lineOf a w)) h) }
 
 -- what was answered is the line's length, which a line holds
-pub answered-fits : (line : List ℕ) (a w : ℕ) {r : Line} {n : ℕ} → lineSaid r ≡ lineAnswer line a w → r ≡ Length n → n ≤ 64
+pub answered-fits : (line : List ℕ) (a w : ℕ) {r : Line} {n : ℕ}
+    → lineSaid r ≡ lineAnswer line a w → r ≡ Length n → n ≤ 64
 answered-fits line a w {r} {n} e f = by (eqb (length line) 64) (sym (ap lineSaid f) ∙ e)
   where
     by : (b : Bool) → values n ≡ pick b (values (length (lineOf a w))) (number 7) → n ≤ 64

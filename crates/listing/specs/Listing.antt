@@ -21,7 +21,7 @@ use Rattle.reading.specs.Reading.{readOf}
 use Rattle.text.specs.Text.{bytes, padded}
 use Rattle.text.specs.Numerals.{decimal, hex}
 use Rattle.operands.specs.Operands.{operandsText}
-use Rattle.names.specs.Names.{name}
+use Rattle.ops.specs.Table.{mnemonic}
 use Rattle.shown.specs.Shown.{shownOf}
 
 -- ---- an instruction
@@ -38,7 +38,7 @@ formText (Each df) = bytes "." ++ letter df ∷ []
 formText Whole = bytes ".V"
 
 abbrev pub shownText : Shown → List ℕ
-shownText s = name (s .name) ++ formText (s .form) ++ bytes " " ++ operandsText (s .a) (s .b) (s .c) (s .d)
+shownText s = mnemonic (s .name) ++ formText (s .form) ++ bytes " " ++ operandsText (s .a) (s .b) (s .c) (s .d)
 
 -- ---- a word
 

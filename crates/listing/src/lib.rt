@@ -2,7 +2,7 @@
 use isa::Read;
 use isa::Unread;
 use isa::Width;
-use names::put_name;
+use mnemonics::put_name;
 use operands::put_operands;
 use reading::read_word;
 use shown::Form;

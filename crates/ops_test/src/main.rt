@@ -1,177 +1,100 @@
 // Runs the cases of shared/vectors/ops.txt, one instruction on registers alone each, in the form that
-// tools/ops_cases.py writes: reads the word, does its operation, and prints how many results are those of the case.
+// tools/ops_cases.py writes: a step of a program of one word. Prints how many leave every register as the case says.
 // After them, the same for corners-ops.txt of that folder and for tools/examples.txt.
+ghost use mathlib.Core.Path.{_≡_};
 ghost use Prim.Native.Nat.{_≤_};
 ghost use lib.ListN.{length};
-use isa::Copied;
-use isa::Greg;
-use isa::Instr;
-use isa::Read;
-use isa::Scaled;
-use isa::Width;
-use memory::Register;
+use isa::Vreg;
+use machine::step::Answer;
+use machine::step::Outcome;
+use machine::step::step;
 use memory::eight;
-use memory::four;
+use memory::file::write_register;
+use memory::put_eight;
 use memory::sixteen;
-use plan::Plan;
+use state::control::Control;
+use state::control::Mark;
+use state::windows::Bases;
 
-enum Outcome {
-    Vector(Register),
-    General(u64),
-    Nothing,
-}
-
-// A write to register 0 is dropped.
-fn written(rd: Greg, x: u64) -> Outcome {
-    let r = rd.0;
-    Outcome::General(if r == 0 { 0 } else { x })
-}
-
-fn copied(op: Copied, w: Width, rd: Greg, s: Register, n: u8) -> Outcome {
-    let i = n as u64;
-    match op {
-        Copied::CopyS => written(rd, permute::moves::copy_s(w, s, i)),
-        Copied::CopyU => written(rd, permute::moves::copy_u(w, s, i)),
-    }
-}
-
-fn scaled(op: Scaled, rd: Greg, x: u64, y: u64, sa: u8) -> Outcome {
-    if 3 < sa {
-        return Outcome::Nothing;
-    }
-    match plan::scaled::scaled(op, rd, x, y, sa) {
-        Plan::General(r, v) => written(r, v),
-        _ => Outcome::Nothing,
-    }
-}
-
-// The classes with an immediate, an index or a general register.
-fn other(i: Instr, d: Register, s: Register, rs: u64, rt: u64) -> Outcome {
-    match i {
-        Instr::Indexed {
-            op,
-            df,
-            wd: _,
-            ws: _,
-            rt: _,
-        } => Outcome::Vector(forms::indexed(op, df, d, s, rt)),
-        Instr::Ldi { df, wd: _, imm } => Outcome::Vector(permute::moves::ldi(df, imm)),
-        Instr::Shf {
-            df,
-            wd: _,
-            ws: _,
-            imm,
-        } => Outcome::Vector(permute::shf(df, s, imm)),
-        Instr::Element {
-            op,
-            df,
-            wd: _,
-            ws: _,
-            n,
-        } => Outcome::Vector(forms::element(op, df, d, s, n)),
-        Instr::Copy {
-            op,
-            df,
-            rd,
-            ws: _,
-            n,
-        } => copied(op, df, rd, s, n),
-        Instr::Insert {
-            df,
-            wd: _,
-            n,
-            rs: _,
-        } => Outcome::Vector(permute::insert(df, d, n as u64, rs)),
-        Instr::Fill { df, wd: _, rs: _ } => Outcome::Vector(vectors::spread(df, rs)),
-        Instr::Move { wd: _, ws: _ } => Outcome::Vector(s),
-        Instr::Scaled {
-            op,
-            rd,
-            rs: _,
-            rt: _,
-            sa,
-        } => scaled(op, rd, rs, rt, sa),
-        _ => Outcome::Nothing,
-    }
-}
-
-fn result(i: Instr, d: Register, s: Register, t: Register, rs: u64, rt: u64) -> Outcome {
-    match i {
-        Instr::Three {
-            op,
-            df,
-            wd: _,
-            ws: _,
-            wt: _,
-        } => Outcome::Vector(forms::three(op, df, d, s, t)),
-        Instr::Imm5 {
-            op,
-            df,
-            wd: _,
-            ws: _,
-            imm,
-        } => Outcome::Vector(forms::imm5(op, df, s, imm)),
-        Instr::Bit {
-            op,
-            df,
-            wd: _,
-            ws: _,
-            m,
-        } => Outcome::Vector(forms::bit(op, df, d, s, m)),
-        Instr::Imm8 {
-            op,
-            wd: _,
-            ws: _,
-            imm,
-        } => Outcome::Vector(forms::imm8(op, d, s, imm)),
-        Instr::Vec {
-            op,
-            wd: _,
-            ws: _,
-            wt: _,
-        } => Outcome::Vector(logic::logic(op, d, s, t)),
-        Instr::Count {
-            op,
-            df,
-            wd: _,
-            ws: _,
-        } => Outcome::Vector(forms::count(op, df, s)),
-        _ => other(i, d, s, rs, rt),
-    }
-}
-
-fn same(o: Outcome, kind: u32, e: Register) -> bool {
-    match o {
-        Outcome::Vector(v) => (kind == 0) & (v.low == e.low) & (v.high == e.high),
-        Outcome::General(x) => (kind == 1) & (x == e.low),
-        Outcome::Nothing => false,
-    }
-}
-
-fn agrees(b: &[u8]) -> bool
-    requires { ⌜ 96 ≤ length (now b) ⌝ }
+fn set_vector(v: &mut [u8], number: u8, r: [u8; 100], at: usize)
+    requires { ⌜ (length (now v) ≡ 512) × (at ≤ 84) ⌝ }
 {
-    let word = four(b, 0);
-    let kind = four(b, 4);
-    let d = sixteen(b, 8);
-    let s = sixteen(b, 24);
-    let t = sixteen(b, 40);
-    let rs = eight(b, 56);
-    let rt = eight(b, 64);
-    let e = sixteen(b, 80);
-    let Read::Instr(i) = reading::read_word(word) else {
-        return false;
+    write_register(v, Vreg(number % 32), sixteen(&r, at));
+}
+
+fn set_general(g: &mut [u8], number: u8, r: [u8; 100], at: usize)
+    requires { ⌜ (length (now g) ≡ 256) × (at ≤ 84) ⌝ }
+{
+    put_eight(g, (number % 32) as usize * 8, eight(&r, at));
+}
+
+fn set_sources(v: &mut [u8], g: &mut [u8], r: [u8; 100])
+    requires { ⌜ (length (now v) ≡ 512) × (length (now g) ≡ 256) ⌝ }
+{
+    set_vector(v, r[4], r, 12);
+    set_vector(v, r[5], r, 28);
+    set_vector(v, r[6], r, 44);
+    set_general(g, r[7], r, 60);
+    set_general(g, r[8], r, 68);
+    set_general(g, r[9], r, 76);
+}
+
+fn set_result(v: &mut [u8], g: &mut [u8], r: [u8; 100])
+    requires { ⌜ (length (now v) ≡ 512) × (length (now g) ≡ 256) ⌝ }
+{
+    if r[10] == 0 {
+        set_vector(v, r[4], r, 84);
+    } else {
+        set_general(g, r[9], r, 84);
+    }
+}
+
+fn finished(answer: Answer) -> bool {
+    match answer {
+        Answer::Ran(outcome) => match outcome {
+            Outcome::Finished => true,
+            Outcome::Stopped(_) => false,
+        },
+        Answer::Refused(_) => false,
+    }
+}
+
+// A step of the word; whether it is finished. No case loads or stores.
+fn steps(word: &[u8], v: &mut [u8], g: &mut [u8]) -> bool {
+    let bases = Bases {
+        program: 0,
+        table: 0,
+        work: 0,
     };
-    same(result(i, d, s, t, rs, rt), kind, e)
+    let control = Control {
+        pc: 0,
+        mark: Mark::Clear,
+        csr: 0,
+        on: true,
+    };
+    let mut work = [0u8; 1];
+    let answered = step(bases, word, &[0u8; 0], v, g, &mut work, control);
+    let answer = answered.answer;
+    finished(answer)
+}
+
+fn agrees(r: [u8; 100]) -> bool {
+    let word = [r[0], r[1], r[2], r[3]];
+    let mut v = [0u8; 512];
+    let mut g = [0u8; 256];
+    set_sources(&mut v, &mut g, r);
+    let mut want_v = v;
+    let mut want_g = g;
+    set_result(&mut want_v, &mut want_g, r);
+    steps(&word, &mut v, &mut g) & check::same(&v, &want_v) & check::same(&g, &want_g)
 }
 
 fn next_case() -> bool {
-    let mut b = [0u8; 96];
-    let n = io::read_full(0, &mut b);
-    if n < 96 {
+    let mut r = [0u8; 100];
+    if io::read_full(0, &mut r) < 100 {
         return false;
     }
-    agrees(&b)
+    agrees(r)
 }
 
 // The number of cases of the next part.

@@ -12,6 +12,7 @@ use Rattle.isa.specs.declared.Memory.{Memory}
 use Rattle.isa.specs.declared.Memory.the-variants.{Ld, St}
 use Rattle.isa.specs.declared.Stop.the-variants.{Trap}
 use Rattle.isa.specs.declared.Vreg.{Vreg}
+use Rattle.ops.specs.Meaning.{memoryAt}
 use Rattle.memory.specs.File.{registerAt}
 use Rattle.state.specs.declared.windows.Spot.{Spot}
 use Rattle.state.specs.declared.windows.Spot.the-variants.{Table, Work, Outside}
@@ -25,7 +26,7 @@ use Rattle.plan.specs.declared.Plan.the-variants as plan
 use Rattle.plan.specs.declared.planned.Early.{Early}
 use Rattle.plan.specs.declared.planned.Early.the-variants.{Go, Stops}
 use Rattle.plan.specs.Numbers.{address}
-use Rattle.plan.specs.Plan.{planOf, executed, accessed, loaded, stored, generalAt, toControl, kindOf, early, unless}
+use Rattle.plan.specs.Plan.{planOf, executed, accessed, loaded, stored, generalAt, kindOf, early, unless}
 use Rattle.plan.specs.There.{There}
 
 module _ (e : Env) (m : Machine) where
@@ -37,16 +38,22 @@ module _ (e : Env) (m : Machine) where
   loaded-there (Work i) wd h = h
   loaded-there Outside wd h = tt
 
-  stored-there : (a x : ℕ) (s : Spot) → spotOf (e .bases) (length (e .table)) (length (m .work)) a ≡ s → Names (stored s a x)
+  abbrev spot : ℕ → Spot
+  spot a = spotOf (e .bases) (length (e .table)) (length (m .work)) a
+
+  stored-there : (a x : ℕ) (s : Spot) → spot a ≡ s → Names (stored s a x)
   stored-there a x (Table i) p = tt
-  stored-there a x (Work i) p = let h = spot-work (e .bases) (length (e .table)) (length (m .work)) a i p in (h .0, h .1)
+  stored-there a x (Work i) p =
+      let h = spot-work (e .bases) (length (e .table)) (length (m .work)) a i p in (h .0, h .1)
   stored-there a x Outside p = tt
 
-  accessed-there : (o : Memory) (wd : Vreg) (a : ℕ) → wd .0 < 32 → Names (accessed o (e .bases) (e .table) (m .vec) (m .work) wd a)
-  accessed-there Ld wd a h = loaded-there (spotOf (e .bases) (length (e .table)) (length (m .work)) a) wd h
-  accessed-there St wd a h = stored-there a (registerAt (m .vec) wd) (spotOf (e .bases) (length (e .table)) (length (m .work)) a) refl
+  accessed-there : (o : Memory) (wd : Vreg) (a : ℕ)
+      → wd .0 < 32 → Names (accessed o (e .bases) (e .table) (m .vec) (m .work) wd a)
+  accessed-there Ld wd a h = loaded-there (spot a) wd h
+  accessed-there St wd a h = stored-there a (registerAt (m .vec) wd) (spot a) refl
 
-  control-there : (one? trap? : Bool) (x : ℕ) → Names (cond one? (cond trap? (plan.Stop Trap) (plan.Csr x)) plan.Nothing)
+  control-there : (one? trap? : Bool) (x : ℕ)
+      → Names (cond one? (cond trap? (plan.Stop Trap) (plan.Csr x)) plan.Nothing)
   control-there true true x = tt
   control-there true false x = tt
   control-there false trap? x = tt
@@ -54,21 +61,25 @@ module _ (e : Env) (m : Machine) where
   executed-there : (i : Instr) → Formed i → Names (executed e m i)
   executed-there (instr.Three o df wd ws wt) f = f .0
   executed-there (instr.Indexed o df wd ws rt) f = f .0
-  executed-there (instr.Imm5 o df wd ws imm) f = f .0
+  executed-there (instr.Imm5U o df wd ws imm) f = f .0
+  executed-there (instr.Imm5S o df wd ws imm) f = f .0
   executed-there (instr.Ldi df wd imm) f = f .0
   executed-there (instr.Bit o df wd ws k) f = f .0
   executed-there (instr.Imm8 o wd ws imm) f = f .0
   executed-there (instr.Shf df wd ws imm) f = f .0
   executed-there (instr.Element o df wd ws n) f = f .0
+  executed-there (instr.Insve df wd n ws) f = f .0
   executed-there (instr.Copy o df rd ws n) f = f .0
   executed-there (instr.Insert df wd n rs) f = f .0
   executed-there (instr.Move wd ws) f = f .0
   executed-there (instr.Cfcmsa rd cs) f = f .0
-  executed-there (instr.Ctcmsa cd rs) f = control-there (eqb (cd .0) 1) (arms (masked (generalAt (m .gen) rs))) (masked (generalAt (m .gen) rs))
+  executed-there (instr.Ctcmsa cd rs) f =
+      let x = masked (generalAt (m .gen) rs) in control-there (eqb (cd .0) 1) (arms x) x
   executed-there (instr.Vec o wd ws wt) f = f .0
   executed-there (instr.Fill df wd rs) f = f .0
   executed-there (instr.Count o df wd ws) f = f .0
-  executed-there (instr.Memory o df wd offset rs) f = accessed-there o wd (address df offset (generalAt (m .gen) rs)) (f .0)
+  executed-there (instr.Memory o df wd offset rs) f =
+      accessed-there (memoryAt (o .0)) wd (address df offset (generalAt (m .gen) rs)) (f .0)
   executed-there (instr.Branch o df wt offset) f = tt
   executed-there (instr.BranchV o wt offset) f = tt
   executed-there (instr.Scaled o rd rs rt sa) f = f .0
@@ -79,4 +90,5 @@ module _ (e : Env) (m : Machine) where
 
   pub planned-there : (i : Instr) → Formed i → There (e .bases .work) (length (m .work)) (planOf e m i)
   unfolding planOf
-  planned-there i f = unless-there (early (kindOf i) (m .ctl .mark) (m .ctl .on)) (executed e m i) (executed-there i f)
+  planned-there i f =
+      unless-there (early (kindOf i) (m .ctl .mark) (m .ctl .on)) (executed e m i) (executed-there i f)

@@ -16,7 +16,9 @@ use Rattle.isa.specs.declared.Stop.the-variants.{BranchInSlot, SwitchedOff, NoW
 use Rattle.memory.specs.Bytes.{part, number}
 use Rattle.memory.specs.File.{registerAt}
 use Rattle.memory.specs.Value.{register}
-use Rattle.forms.specs.Forms.{threeOf, indexedOf, imm5Of, bitOf, imm8Of, elementOf, countOf}
+use Rattle.ops.specs.Meaning.{threeAt, indexedAt, imm5At, bitAt, logicAt}
+use Rattle.ops.specs.Meaning.{copiedAt, countAt, memoryAt, zeroAt, scaledAt}
+use Rattle.forms.specs.Forms.{threeOf, indexedOf, imm5Of, bitOf, imm8Of, countOf}
 use Rattle.logic.specs.Logic.{logicBit}
 use Rattle.permute.specs.Loaded as ldi
 use Rattle.permute.specs.Permute.{chosenByImmediate, withElement}
@@ -60,9 +62,11 @@ stored Outside a x = plan.Stop NoWindow
 
 abbrev pub accessed : Memory → Bases → List ℕ → List ℕ → List ℕ → Vreg → ℕ → Plan
 accessed Ld bases table vectors work wd a = loaded (spotOf bases (length table) (length work) a) wd table work
-accessed St bases table vectors work wd a = stored (spotOf bases (length table) (length work) a) a (registerAt vectors wd)
+accessed St bases table vectors work wd a =
+    stored (spotOf bases (length table) (length work) a) a (registerAt vectors wd)
 
--- CTCMSA to MSACSR keeps the bits that exist, and stops where they arm a trap; to another control register it is done and changes nothing
+-- CTCMSA to MSACSR keeps the bits that exist, and stops where they arm a trap; to another control register it is done
+-- and changes nothing
 abbrev pub toControl : ℕ → ℕ → Plan
 toControl cd x = cond (eqb cd 1) (cond (arms (masked x)) (plan.Stop Trap) (plan.Csr (masked x))) plan.Nothing
 
@@ -72,49 +76,72 @@ marked true to = Taken to
 marked false to = NotTaken
 
 abbrev pub executed : Env → Machine → Instr → Plan
-executed e m (instr.Three o df wd ws wt) = writes wd (threeOf o (bits df) (registerAt (m .vec) wd) (registerAt (m .vec) ws) (registerAt (m .vec) wt))
-executed e m (instr.Indexed o df wd ws rt) = writes wd (indexedOf o (bits df) (registerAt (m .vec) wd) (registerAt (m .vec) ws) (generalAt (m .gen) rt))
-executed e m (instr.Imm5 o df wd ws imm) = writes wd (imm5Of o (bits df) (registerAt (m .vec) ws) imm)
+executed e m (instr.Three k df wd ws wt) =
+    writes wd
+    (threeOf (threeAt (k .0)) (bits df) (registerAt (m .vec) wd) (registerAt (m .vec) ws) (registerAt (m .vec) wt))
+executed e m (instr.Indexed k df wd ws rt) =
+    writes wd
+    (indexedOf (indexedAt (k .0)) (bits df) (registerAt (m .vec) wd) (registerAt (m .vec) ws) (generalAt (m .gen) rt))
+executed e m (instr.Imm5U k df wd ws imm) =
+    writes wd (imm5Of (imm5At (k .0)) false (bits df) (registerAt (m .vec) ws) imm)
+executed e m (instr.Imm5S k df wd ws imm) =
+    writes wd (imm5Of (imm5At (k .0)) true (bits df) (registerAt (m .vec) ws) imm)
 executed e m (instr.Ldi df wd imm) = writes wd (ldi.loaded (bits df) imm)
-executed e m (instr.Bit o df wd ws k) = writes wd (bitOf o (bits df) (registerAt (m .vec) wd) (registerAt (m .vec) ws) k)
-executed e m (instr.Imm8 o wd ws imm) = writes wd (imm8Of o (registerAt (m .vec) wd) (registerAt (m .vec) ws) imm)
-executed e m (instr.Shf df wd ws imm) = writes wd (whole (bits df) (chosenByImmediate imm (bits df) (registerAt (m .vec) ws)))
-executed e m (instr.Element o df wd ws n) = writes wd (elementOf o (bits df) (registerAt (m .vec) wd) (registerAt (m .vec) ws) n)
-executed e m (instr.Copy o df rd ws n) = plan.General rd (copyOf o df (registerAt (m .vec) ws) n)
-executed e m (instr.Insert df wd n rs) = writes wd (whole (bits df) (withElement n (generalAt (m .gen) rs) (bits df) (registerAt (m .vec) wd)))
+executed e m (instr.Bit k df wd ws n) =
+    writes wd (bitOf (bitAt (k .0)) (bits df) (registerAt (m .vec) wd) (registerAt (m .vec) ws) n)
+executed e m (instr.Imm8 k wd ws imm) =
+    writes wd (imm8Of (logicAt (k .0)) (registerAt (m .vec) wd) (registerAt (m .vec) ws) imm)
+executed e m (instr.Shf df wd ws imm) =
+    writes wd (whole (bits df) (chosenByImmediate imm (bits df) (registerAt (m .vec) ws)))
+executed e m (instr.Element k df wd ws n) =
+    writes wd (indexedOf (indexedAt (k .0)) (bits df) (registerAt (m .vec) wd) (registerAt (m .vec) ws) n)
+executed e m (instr.Insve df wd n ws) =
+    writes wd
+    (whole (bits df) (withElement n (element (bits df) (registerAt (m .vec) ws) 0) (bits df) (registerAt (m .vec) wd)))
+executed e m (instr.Copy k df rd ws n) = plan.General rd (copyOf (copiedAt (k .0)) df (registerAt (m .vec) ws) n)
+executed e m (instr.Insert df wd n rs) =
+    writes wd (whole (bits df) (withElement n (generalAt (m .gen) rs) (bits df) (registerAt (m .vec) wd)))
 executed e m (instr.Move wd ws) = writes wd (registerAt (m .vec) ws)
 executed e m (instr.Cfcmsa rd cs) = plan.General rd (controlRead (cs .0) (m .ctl .csr))
 executed e m (instr.Ctcmsa cd rs) = toControl (cd .0) (generalAt (m .gen) rs)
-executed e m (instr.Vec o wd ws wt) = writes wd (together 1 (logicBit o) (registerAt (m .vec) wd) (registerAt (m .vec) ws) (registerAt (m .vec) wt))
+executed e m (instr.Vec k wd ws wt) =
+    writes wd
+    (together 1 (logicBit (logicAt (k .0))) (registerAt (m .vec) wd) (registerAt (m .vec) ws) (registerAt (m .vec) wt))
 executed e m (instr.Fill df wd rs) = writes wd (filled (bits df) (generalAt (m .gen) rs))
-executed e m (instr.Count o df wd ws) = writes wd (countOf o (bits df) (registerAt (m .vec) ws))
-executed e m (instr.Memory o df wd offset rs) = accessed o (e .bases) (e .table) (m .vec) (m .work) wd (address df offset (generalAt (m .gen) rs))
-executed e m (instr.Branch o df wt offset) = plan.Branch (marked (takenOf o df (registerAt (m .vec) wt)) (target (m .ctl .pc) offset))
-executed e m (instr.BranchV o wt offset) = plan.Branch (marked (takenVOf o (registerAt (m .vec) wt)) (target (m .ctl .pc) offset))
-executed e m (instr.Scaled o rd rs rt sa) = plan.General rd (scaledOf o (generalAt (m .gen) rs) (generalAt (m .gen) rt) sa)
+executed e m (instr.Count k df wd ws) = writes wd (countOf (countAt (k .0)) (bits df) (registerAt (m .vec) ws))
+executed e m (instr.Memory k df wd offset rs) =
+    accessed (memoryAt (k .0)) (e .bases) (e .table) (m .vec) (m .work) wd (address df offset (generalAt (m .gen) rs))
+executed e m (instr.Branch k df wt offset) =
+    plan.Branch (marked (takenOf (zeroAt (k .0)) df (registerAt (m .vec) wt)) (target (m .ctl .pc) offset))
+executed e m (instr.BranchV k wt offset) =
+    plan.Branch (marked (takenVOf (zeroAt (k .0)) (registerAt (m .vec) wt)) (target (m .ctl .pc) offset))
+executed e m (instr.Scaled k rd rs rt sa) =
+    plan.General rd (scaledOf (scaledAt (k .0)) (generalAt (m .gen) rs) (generalAt (m .gen) rt) sa)
 
 -- which of 15 and 16 concern an instruction: both a branch, neither LSA and DLSA, and 16 every other
 abbrev pub kindOf : Instr → Kind
-kindOf (instr.Three o df wd ws wt) = Switched
-kindOf (instr.Indexed o df wd ws rt) = Switched
-kindOf (instr.Imm5 o df wd ws imm) = Switched
+kindOf (instr.Three k df wd ws wt) = Switched
+kindOf (instr.Indexed k df wd ws rt) = Switched
+kindOf (instr.Imm5U k df wd ws imm) = Switched
+kindOf (instr.Imm5S k df wd ws imm) = Switched
 kindOf (instr.Ldi df wd imm) = Switched
-kindOf (instr.Bit o df wd ws k) = Switched
-kindOf (instr.Imm8 o wd ws imm) = Switched
+kindOf (instr.Bit k df wd ws n) = Switched
+kindOf (instr.Imm8 k wd ws imm) = Switched
 kindOf (instr.Shf df wd ws imm) = Switched
-kindOf (instr.Element o df wd ws n) = Switched
-kindOf (instr.Copy o df rd ws n) = Switched
+kindOf (instr.Element k df wd ws n) = Switched
+kindOf (instr.Insve df wd n ws) = Switched
+kindOf (instr.Copy k df rd ws n) = Switched
 kindOf (instr.Insert df wd n rs) = Switched
 kindOf (instr.Move wd ws) = Switched
 kindOf (instr.Cfcmsa rd cs) = Switched
 kindOf (instr.Ctcmsa cd rs) = Switched
-kindOf (instr.Vec o wd ws wt) = Switched
+kindOf (instr.Vec k wd ws wt) = Switched
 kindOf (instr.Fill df wd rs) = Switched
-kindOf (instr.Count o df wd ws) = Switched
-kindOf (instr.Memory o df wd offset rs) = Switched
-kindOf (instr.Branch o df wt offset) = Branching
-kindOf (instr.BranchV o wt offset) = Branching
-kindOf (instr.Scaled o rd rs rt sa) = Free
+kindOf (instr.Count k df wd ws) = Switched
+kindOf (instr.Memory k df wd offset rs) = Switched
+kindOf (instr.Branch k df wt offset) = Branching
+kindOf (instr.BranchV k wt offset) = Branching
+kindOf (instr.Scaled k rd rs rt sa) = Free
 
 abbrev pub switchedEarly : Bool → Early
 switchedEarly true = Go

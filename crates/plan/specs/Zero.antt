@@ -1,4 +1,5 @@
--- When a branch is taken: BZ with a format if some element is zero, BNZ if none is; BZ.V if no bit is set, BNZ.V if some is.
+-- When a branch is taken: BZ with a format if some element is zero, BNZ if none is; BZ.V if no bit is set, BNZ.V if
+-- some is.
 use Prim.Native.Nat.{ℕ, zero, suc, _/_}
 use mathlib.Core.Bool.{Bool, false, not, _||_}
 use lib.Dec.{eqb}

@@ -28,7 +28,8 @@ fn mark_of(taken: bool, to: u64) -> Mark
 
 pub fn branch(op: Zero, df: Width, wt: Vreg, offset: u16, vectors: &[u8], pc: u64) -> Plan
     requires { ⌜ length (now vectors) ≡ 512 ⌝ }
-    ensures { λ r. ⌜ r ≡ Plan.Branch (marked (takenOf op df (registerAt (now (vectors .entry)) wt)) (target pc offset)) ⌝ }
+    ensures { λ r. ⌜ r ≡ Plan.Branch (marked (takenOf op df (registerAt (now (vectors .entry)) wt))
+        (target pc offset)) ⌝ }
 {
     let is = taken(op, df, read_register(vectors, wt));
     Plan::Branch(mark_of(is, target_of(pc, offset)))
@@ -36,7 +37,8 @@ pub fn branch(op: Zero, df: Width, wt: Vreg, offset: u16, vectors: &[u8], pc: u6
 
 pub fn branch_v(op: Zero, wt: Vreg, offset: u16, vectors: &[u8], pc: u64) -> Plan
     requires { ⌜ length (now vectors) ≡ 512 ⌝ }
-    ensures { λ r. ⌜ r ≡ Plan.Branch (marked (takenVOf op (registerAt (now (vectors .entry)) wt)) (target pc offset)) ⌝ }
+    ensures { λ r. ⌜ r ≡ Plan.Branch (marked (takenVOf op (registerAt (now (vectors .entry)) wt))
+        (target pc offset)) ⌝ }
 {
     let is = taken_v(op, read_register(vectors, wt));
     Plan::Branch(mark_of(is, target_of(pc, offset)))

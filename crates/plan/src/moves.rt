@@ -97,7 +97,8 @@ pub fn to_control(cd: Creg, x: u64) -> Plan
 }
 
 fn load(wd: Vreg, a: u64, bases: Bases, table: &[u8], work: &[u8]) -> Plan
-    ensures { λ r. ⌜ r ≡ loaded (spotOf bases (length (now (table .entry))) (length (now (work .entry))) a) wd (now (table .entry)) (now (work .entry)) ⌝ }
+    ensures { λ r. ⌜ r ≡ loaded (spotOf bases (length (now (table .entry))) (length (now (work .entry))) a) wd
+        (now (table .entry)) (now (work .entry)) ⌝ }
 {
     match locate(bases, table.len(), work.len(), a) {
         Spot::Table(i) => Plan::Vector(wd, memory::sixteen(table, i)),

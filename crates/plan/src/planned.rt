@@ -7,6 +7,7 @@ use crate::scaled;
 use crate::vector;
 use isa::Instr;
 use isa::Stop;
+use meaning::*;
 use state::control::Control;
 use state::control::Mark;
 use state::windows::Bases;
@@ -35,12 +36,14 @@ fn kind_of(i: Instr) -> Kind
     match i {
         Instr::Three { .. } => Kind::Switched,
         Instr::Indexed { .. } => Kind::Switched,
-        Instr::Imm5 { .. } => Kind::Switched,
+        Instr::Imm5U { .. } => Kind::Switched,
+        Instr::Imm5S { .. } => Kind::Switched,
         Instr::Ldi { .. } => Kind::Switched,
         Instr::Bit { .. } => Kind::Switched,
         Instr::Imm8 { .. } => Kind::Switched,
         Instr::Shf { .. } => Kind::Switched,
         Instr::Element { .. } => Kind::Switched,
+        Instr::Insve { .. } => Kind::Switched,
         Instr::Copy { .. } => Kind::Switched,
         Instr::Insert { .. } => Kind::Switched,
         Instr::Move { .. } => Kind::Switched,
@@ -98,35 +101,55 @@ fn execute(
     c: Control,
 ) -> Plan
     requires { ⌜ (length (now vectors) ≡ 512) × (length (now generals) ≡ 256) × Formed i ⌝ }
-    ensures { λ r. ⌜ r ≡ executed (env bases (now (table .entry))) (machine (now (vectors .entry)) (now (generals .entry)) (now (work .entry)) c) i ⌝ }
+    ensures { λ r. ⌜ r ≡ executed (env bases (now (table .entry)))
+        (machine (now (vectors .entry)) (now (generals .entry)) (now (work .entry)) c) i ⌝ }
 {
     match i {
-        Instr::Three { op, df, wd, ws, wt } => vector::three(op, df, wd, ws, wt, vectors),
-        Instr::Indexed { op, df, wd, ws, rt } => {
-            vector::indexed(op, df, wd, ws, moves::general(generals, rt), vectors)
+        Instr::Three { op, df, wd, ws, wt } => {
+            vector::three(three_at(op), df, wd, ws, wt, vectors)
         }
-        Instr::Imm5 {
+        Instr::Indexed { op, df, wd, ws, rt } => {
+            vector::indexed(
+                indexed_at(op),
+                df,
+                wd,
+                ws,
+                moves::general(generals, rt),
+                vectors,
+            )
+        }
+        Instr::Imm5U {
             op,
             df,
             wd,
             ws,
             imm,
-        } => vector::imm5(op, df, wd, ws, imm, vectors),
+        } => vector::imm5(imm5_at(op), false, df, wd, ws, imm, vectors),
+        Instr::Imm5S {
+            op,
+            df,
+            wd,
+            ws,
+            imm,
+        } => vector::imm5(imm5_at(op), true, df, wd, ws, imm, vectors),
         Instr::Ldi { df, wd, imm } => vector::ldi(df, wd, imm),
-        Instr::Bit { op, df, wd, ws, m } => vector::bit(op, df, wd, ws, m, vectors),
-        Instr::Imm8 { op, wd, ws, imm } => vector::imm8(op, wd, ws, imm, vectors),
+        Instr::Bit { op, df, wd, ws, m } => vector::bit(bit_at(op), df, wd, ws, m, vectors),
+        Instr::Imm8 { op, wd, ws, imm } => vector::imm8(logic_at(op), wd, ws, imm, vectors),
         Instr::Shf { df, wd, ws, imm } => vector::shf(df, wd, ws, imm, vectors),
-        Instr::Element { op, df, wd, ws, n } => vector::element(op, df, wd, ws, n, vectors),
-        Instr::Copy { op, df, rd, ws, n } => moves::copy(op, df, rd, ws, n, vectors),
+        Instr::Element { op, df, wd, ws, n } => {
+            vector::indexed(indexed_at(op), df, wd, ws, n as u64, vectors)
+        }
+        Instr::Insve { df, wd, n, ws } => vector::insve(df, wd, n, ws, vectors),
+        Instr::Copy { op, df, rd, ws, n } => moves::copy(copied_at(op), df, rd, ws, n, vectors),
         Instr::Insert { df, wd, n, rs } => {
             vector::insert(df, wd, n, moves::general(generals, rs), vectors)
         }
         Instr::Move { wd, ws } => vector::copied(wd, ws, vectors),
         Instr::Cfcmsa { rd, cs } => moves::from_control(rd, cs, c.csr),
         Instr::Ctcmsa { cd, rs } => moves::to_control(cd, moves::general(generals, rs)),
-        Instr::Vec { op, wd, ws, wt } => vector::vec(op, wd, ws, wt, vectors),
+        Instr::Vec { op, wd, ws, wt } => vector::vec(logic_at(op), wd, ws, wt, vectors),
         Instr::Fill { df, wd, rs } => vector::fill(df, wd, moves::general(generals, rs)),
-        Instr::Count { op, df, wd, ws } => vector::count(op, df, wd, ws, vectors),
+        Instr::Count { op, df, wd, ws } => vector::count(count_at(op), df, wd, ws, vectors),
         Instr::Memory {
             op,
             df,
@@ -134,7 +157,7 @@ fn execute(
             offset,
             rs,
         } => moves::access(
-            op,
+            memory_at(op),
             wd,
             address(df, offset, moves::general(generals, rs)),
             bases,
@@ -143,11 +166,13 @@ fn execute(
             work,
         ),
         Instr::Branch { op, df, wt, offset } => {
-            branch::branch(op, df, wt, offset, vectors, c.pc)
+            branch::branch(zero_at(op), df, wt, offset, vectors, c.pc)
         }
-        Instr::BranchV { op, wt, offset } => branch::branch_v(op, wt, offset, vectors, c.pc),
+        Instr::BranchV { op, wt, offset } => {
+            branch::branch_v(zero_at(op), wt, offset, vectors, c.pc)
+        }
         Instr::Scaled { op, rd, rs, rt, sa } => scaled::scaled(
-            op,
+            scaled_at(op),
             rd,
             moves::general(generals, rs),
             moves::general(generals, rt),
@@ -167,7 +192,8 @@ pub fn plan_of(
     c: Control,
 ) -> Plan
     requires { ⌜ (length (now vectors) ≡ 512) × (length (now generals) ≡ 256) × Formed i ⌝ }
-    ensures { λ r. ⌜ r ≡ planOf (env bases (now (table .entry))) (machine (now (vectors .entry)) (now (generals .entry)) (now (work .entry)) c) i ⌝ }
+    ensures { λ r. ⌜ r ≡ planOf (env bases (now (table .entry)))
+        (machine (now (vectors .entry)) (now (generals .entry)) (now (work .entry)) c) i ⌝ }
 {
     let mark = c.mark;
     match early_stop(kind_of(i), mark, c.on) {

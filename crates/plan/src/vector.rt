@@ -1,9 +1,8 @@
 // Plans that write a vector register: read the sources, work, name the destination.
 use crate::Plan;
+use isa::Arith;
 use isa::BitOp;
 use isa::Count;
-use isa::Element;
-use isa::Imm5;
 use isa::Indexed;
 use isa::Logic;
 use isa::Three;
@@ -15,16 +14,17 @@ ghost use Prim.Native.Nat.{_<_};
 ghost use lib.ListN.{length};
 ghost use Rattle.isa.specs.Widths.{bits};
 ghost use Rattle.memory.specs.File.{registerAt};
-ghost use Rattle.forms.specs.Forms.{threeOf, indexedOf, imm5Of, bitOf, imm8Of, elementOf, countOf};
+ghost use Rattle.forms.specs.Forms.{threeOf, indexedOf, imm5Of, bitOf, imm8Of, countOf};
 ghost use Rattle.logic.specs.Logic.{logicBit};
 ghost use Rattle.permute.specs.Loaded.{loaded};
 ghost use Rattle.permute.specs.Permute.{chosenByImmediate, withElement};
-ghost use Rattle.vectors.specs.Register.{whole, together, filled};
+ghost use Rattle.vectors.specs.Register.{whole, together, filled, element};
 ghost use Rattle.plan.specs.Plan.{writes};
 
 pub fn three(op: Three, df: Width, wd: Vreg, ws: Vreg, wt: Vreg, vectors: &[u8]) -> Plan
     requires { ⌜ length (now vectors) ≡ 512 ⌝ }
-    ensures { λ r. ⌜ r ≡ writes wd (threeOf op (bits df) (registerAt (now (vectors .entry)) wd) (registerAt (now (vectors .entry)) ws) (registerAt (now (vectors .entry)) wt)) ⌝ }
+    ensures { λ r. ⌜ r ≡ writes wd (threeOf op (bits df) (registerAt (now (vectors .entry)) wd)
+        (registerAt (now (vectors .entry)) ws) (registerAt (now (vectors .entry)) wt)) ⌝ }
 {
     let d = read_register(vectors, wd);
     let s = read_register(vectors, ws);
@@ -34,18 +34,22 @@ pub fn three(op: Three, df: Width, wd: Vreg, ws: Vreg, wt: Vreg, vectors: &[u8])
 
 pub fn indexed(op: Indexed, df: Width, wd: Vreg, ws: Vreg, x: u64, vectors: &[u8]) -> Plan
     requires { ⌜ length (now vectors) ≡ 512 ⌝ }
-    ensures { λ r. ⌜ r ≡ writes wd (indexedOf op (bits df) (registerAt (now (vectors .entry)) wd) (registerAt (now (vectors .entry)) ws) x) ⌝ }
+    ensures { λ r. ⌜ r ≡ writes wd (indexedOf op (bits df) (registerAt (now (vectors .entry)) wd)
+        (registerAt (now (vectors .entry)) ws) x) ⌝ }
 {
     let d = read_register(vectors, wd);
     let s = read_register(vectors, ws);
     Plan::Vector(wd, forms::indexed(op, df, d, s, x))
 }
 
-pub fn imm5(op: Imm5, df: Width, wd: Vreg, ws: Vreg, imm: u8, vectors: &[u8]) -> Plan
+pub fn imm5(op: Arith, signed: bool, df: Width, wd: Vreg, ws: Vreg, imm: u8, vectors: &[u8]) -> Plan
     requires { ⌜ length (now vectors) ≡ 512 ⌝ }
-    ensures { λ r. ⌜ r ≡ writes wd (imm5Of op (bits df) (registerAt (now (vectors .entry)) ws) imm) ⌝ }
+    ensures { λ r. ⌜ r ≡ writes wd (imm5Of op signed (bits df) (registerAt (now (vectors .entry)) ws) imm) ⌝ }
 {
-    Plan::Vector(wd, forms::imm5(op, df, read_register(vectors, ws), imm))
+    Plan::Vector(
+        wd,
+        forms::imm5(op, signed, df, read_register(vectors, ws), imm),
+    )
 }
 
 pub fn ldi(df: Width, wd: Vreg, imm: u16) -> Plan
@@ -56,7 +60,8 @@ pub fn ldi(df: Width, wd: Vreg, imm: u16) -> Plan
 
 pub fn bit(op: BitOp, df: Width, wd: Vreg, ws: Vreg, m: u8, vectors: &[u8]) -> Plan
     requires { ⌜ length (now vectors) ≡ 512 ⌝ }
-    ensures { λ r. ⌜ r ≡ writes wd (bitOf op (bits df) (registerAt (now (vectors .entry)) wd) (registerAt (now (vectors .entry)) ws) m) ⌝ }
+    ensures { λ r. ⌜ r ≡ writes wd (bitOf op (bits df) (registerAt (now (vectors .entry)) wd)
+        (registerAt (now (vectors .entry)) ws) m) ⌝ }
 {
     let d = read_register(vectors, wd);
     let s = read_register(vectors, ws);
@@ -65,7 +70,8 @@ pub fn bit(op: BitOp, df: Width, wd: Vreg, ws: Vreg, m: u8, vectors: &[u8]) -> P
 
 pub fn imm8(op: Logic, wd: Vreg, ws: Vreg, imm: u8, vectors: &[u8]) -> Plan
     requires { ⌜ length (now vectors) ≡ 512 ⌝ }
-    ensures { λ r. ⌜ r ≡ writes wd (imm8Of op (registerAt (now (vectors .entry)) wd) (registerAt (now (vectors .entry)) ws) imm) ⌝ }
+    ensures { λ r. ⌜ r ≡ writes wd (imm8Of op (registerAt (now (vectors .entry)) wd)
+        (registerAt (now (vectors .entry)) ws) imm) ⌝ }
 {
     let d = read_register(vectors, wd);
     let s = read_register(vectors, ws);
@@ -74,23 +80,27 @@ pub fn imm8(op: Logic, wd: Vreg, ws: Vreg, imm: u8, vectors: &[u8]) -> Plan
 
 pub fn shf(df: Width, wd: Vreg, ws: Vreg, imm: u8, vectors: &[u8]) -> Plan
     requires { ⌜ length (now vectors) ≡ 512 ⌝ }
-    ensures { λ r. ⌜ r ≡ writes wd (whole (bits df) (chosenByImmediate imm (bits df) (registerAt (now (vectors .entry)) ws))) ⌝ }
+    ensures { λ r. ⌜ r ≡ writes wd (whole (bits df)
+        (chosenByImmediate imm (bits df) (registerAt (now (vectors .entry)) ws))) ⌝ }
 {
     Plan::Vector(wd, permute::shf(df, read_register(vectors, ws), imm))
 }
 
-pub fn element(op: Element, df: Width, wd: Vreg, ws: Vreg, n: u8, vectors: &[u8]) -> Plan
+pub fn insve(df: Width, wd: Vreg, n: u8, ws: Vreg, vectors: &[u8]) -> Plan
     requires { ⌜ length (now vectors) ≡ 512 ⌝ }
-    ensures { λ r. ⌜ r ≡ writes wd (elementOf op (bits df) (registerAt (now (vectors .entry)) wd) (registerAt (now (vectors .entry)) ws) n) ⌝ }
+    ensures { λ r. ⌜ r ≡ writes wd (whole (bits df)
+        (withElement n (element (bits df) (registerAt (now (vectors .entry)) ws) 0) (bits df)
+        (registerAt (now (vectors .entry)) wd))) ⌝ }
 {
     let d = read_register(vectors, wd);
     let s = read_register(vectors, ws);
-    Plan::Vector(wd, forms::element(op, df, d, s, n))
+    Plan::Vector(wd, permute::moves::insve(df, d, n as u64, s))
 }
 
 pub fn insert(df: Width, wd: Vreg, n: u8, x: u64, vectors: &[u8]) -> Plan
     requires { ⌜ length (now vectors) ≡ 512 ⌝ }
-    ensures { λ r. ⌜ r ≡ writes wd (whole (bits df) (withElement n x (bits df) (registerAt (now (vectors .entry)) wd))) ⌝ }
+    ensures { λ r. ⌜ r ≡ writes wd (whole (bits df)
+        (withElement n x (bits df) (registerAt (now (vectors .entry)) wd))) ⌝ }
 {
     Plan::Vector(
         wd,
@@ -107,7 +117,8 @@ pub fn copied(wd: Vreg, ws: Vreg, vectors: &[u8]) -> Plan
 
 pub fn vec(op: Logic, wd: Vreg, ws: Vreg, wt: Vreg, vectors: &[u8]) -> Plan
     requires { ⌜ length (now vectors) ≡ 512 ⌝ }
-    ensures { λ r. ⌜ r ≡ writes wd (together 1 (logicBit op) (registerAt (now (vectors .entry)) wd) (registerAt (now (vectors .entry)) ws) (registerAt (now (vectors .entry)) wt)) ⌝ }
+    ensures { λ r. ⌜ r ≡ writes wd (together 1 (logicBit op) (registerAt (now (vectors .entry)) wd)
+        (registerAt (now (vectors .entry)) ws) (registerAt (now (vectors .entry)) wt)) ⌝ }
 {
     let d = read_register(vectors, wd);
     let s = read_register(vectors, ws);

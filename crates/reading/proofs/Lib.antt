@@ -1,1 +1,2 @@
+pub mod Low
 pub mod Said

@@ -1,249 +1,316 @@
-// Each class of words once its table's cell is known.
-use crate::operands::cd;
-use crate::operands::cs;
-use crate::operands::df;
-use crate::operands::ga;
-use crate::operands::gd;
-use crate::operands::gs;
-use crate::operands::gt;
-use crate::operands::memory_format;
-use crate::operands::minor;
-use crate::operands::offset;
-use crate::operands::vd;
-use crate::operands::vs;
-use crate::operands::vt;
-use crate::places::Place;
-use crate::places::element_place;
-use cells::BranchCell;
-use cells::Control;
-use cells::ElementCell;
-use cells::TwoCell;
-use cells::VecCell;
-use cells::tables::control_at;
-use cells::tables::element_at;
-use cells::tables::two_at;
-use cells::tables::width_at;
-use codes::forms::copy_form;
-use codes::forms::has_form;
-use isa::BitOp;
-use isa::Copied;
-use isa::Greg;
-use isa::Instr;
-use isa::Memory;
-use isa::Read;
-use isa::Scaled;
-use isa::Three;
-use isa::Unread;
-use isa::Vreg;
-use isa::Width;
+// Each class of words, once the place of its operation is known.
+use crate::index::bit_index;
+use crate::index::element_index;
+use crate::operands::*;
+use isa::widths::width_at;
+use isa::*;
+use ops::has;
 ghost use mathlib.Core.Path.{_≡_};
+ghost use Rattle.ops.specs.Classes as class;
+ghost use Rattle.ops.specs.Packed.{formatsOf};
 ghost use Rattle.reading.specs.Reading as reading;
 
-pub fn read_three(op: Three, w: u32) -> Read
-    ensures { λ r. ⌜ r ≡ reading.readThree op w ⌝ }
+// A word that is no instruction.
+pub fn vacant(w: u32) -> Read
+    ensures { λ r. ⌜ r ≡ reading.vacant w ⌝ }
 {
-    three_with(op, df(w), vd(w), vs(w), vt(w))
-}
-
-pub fn three_with(op: Three, df: Width, wd: Vreg, ws: Vreg, wt: Vreg) -> Read
-    ensures { λ r. ⌜ r ≡ reading.threeWith op df wd ws wt ⌝ }
-{
-    if has_form(op, df) {
-        Read::Instr(Instr::Three { op, df, wd, ws, wt })
-    } else {
-        Read::Not(Unread::Unassigned)
+    if w / 67108864 % 64 == 30 {
+        return Read::Not(Unread::Unassigned);
     }
+    Read::Not(Unread::Other)
 }
 
-pub fn bit_at(op: BitOp, place: Place, wd: Vreg, ws: Vreg) -> Read
-    ensures { λ r. ⌜ r ≡ reading.bitAt op place wd ws ⌝ }
+fn given(w: u32, ok: bool, i: Instr) -> Read
+    ensures { λ r. ⌜ r ≡ reading.given w ok i ⌝ }
 {
-    match place {
-        Place::Reserved => Read::Not(Unread::Unassigned),
-        Place::At { df, n } => Read::Instr(Instr::Bit {
-            op,
-            df,
-            wd,
-            ws,
-            m: n,
-        }),
-    }
+    if ok { Read::Instr(i) } else { vacant(w) }
 }
 
-pub fn copy_with(op: Copied, df: Width, rd: Greg, ws: Vreg, n: u8) -> Read
-    ensures { λ r. ⌜ r ≡ reading.copyWith op df rd ws n ⌝ }
+pub fn three(f: u64, k: u16, w: u32) -> Read
+    ensures { λ r. ⌜ r ≡ reading.readClass class.Three (formatsOf f) k w ⌝ }
 {
-    if copy_form(op, df) {
-        Read::Instr(Instr::Copy { op, df, rd, ws, n })
-    } else {
-        Read::Not(Unread::Unassigned)
-    }
-}
-
-pub fn element_in(cell: ElementCell, df: Width, n: u8, w: u32) -> Read
-    ensures { λ r. ⌜ r ≡ reading.elementIn cell df n w ⌝ }
-{
-    match cell {
-        ElementCell::Reserved => Read::Not(Unread::Unassigned),
-        ElementCell::Element(op) => Read::Instr(Instr::Element {
-            op,
-            df,
-            wd: vd(w),
-            ws: vs(w),
-            n,
-        }),
-        ElementCell::Copy(op) => copy_with(op, df, gd(w), vs(w), n),
-        ElementCell::Insert => Read::Instr(Instr::Insert {
-            df,
-            wd: vd(w),
-            n,
-            rs: gs(w),
-        }),
-    }
-}
-
-pub fn control_in(cell: Control, w: u32) -> Read
-    ensures { λ r. ⌜ r ≡ reading.controlIn cell w ⌝ }
-{
-    match cell {
-        Control::Reserved => Read::Not(Unread::Unassigned),
-        Control::Ctcmsa => Read::Instr(Instr::Ctcmsa {
-            cd: cd(w),
-            rs: gs(w),
-        }),
-        Control::Cfcmsa => Read::Instr(Instr::Cfcmsa {
-            rd: gd(w),
-            cs: cs(w),
-        }),
-        Control::Move => Read::Instr(Instr::Move {
-            wd: vd(w),
-            ws: vs(w),
-        }),
-    }
-}
-
-pub fn element_at_place(place: Place, w: u32) -> Read
-    ensures { λ r. ⌜ r ≡ reading.elementAtPlace place w ⌝ }
-{
-    match place {
-        Place::Reserved => Read::Not(Unread::Unassigned),
-        Place::At { df, n } => element_in(element_at((w / 4194304 % 16) as usize), df, n, w),
-    }
-}
-
-pub fn read_element(w: u32) -> Read
-    ensures { λ r. ⌜ r ≡ reading.readElement w ⌝ }
-{
-    let x = (w / 65536 % 64) as u8;
-    if x == 62 {
-        control_in(control_at((w / 4194304 % 16) as usize), w)
-    } else {
-        element_at_place(element_place(x), w)
-    }
-}
-
-pub fn two_in(cell: TwoCell, w: u32) -> Read
-    ensures { λ r. ⌜ r ≡ reading.twoIn cell w ⌝ }
-{
-    let df = width_at((w / 65536 % 4) as usize);
-    match cell {
-        TwoCell::Reserved => Read::Not(Unread::Unassigned),
-        TwoCell::Fill => Read::Instr(Instr::Fill {
-            df,
-            wd: vd(w),
-            rs: gs(w),
-        }),
-        TwoCell::Count(op) => Read::Instr(Instr::Count {
-            op,
-            df,
-            wd: vd(w),
-            ws: vs(w),
-        }),
-    }
-}
-
-pub fn vec_in(cell: VecCell, w: u32) -> Read
-    ensures { λ r. ⌜ r ≡ reading.vecIn cell w ⌝ }
-{
-    match cell {
-        VecCell::Reserved => Read::Not(Unread::Unassigned),
-        VecCell::LeftOut => Read::Not(Unread::LeftOut),
-        VecCell::Logic(op) => Read::Instr(Instr::Vec {
-            op,
-            wd: vd(w),
-            ws: vs(w),
-            wt: vt(w),
-        }),
-        VecCell::Two => two_in(two_at((w / 262144 % 8) as usize), w),
-    }
-}
-
-pub fn left_if(bit: u32, w: u32) -> Read
-    ensures { λ r. ⌜ r ≡ reading.leftIf bit w ⌝ }
-{
-    if w / 4194304 % 2 == bit {
-        Read::Not(Unread::LeftOut)
-    } else {
-        Read::Not(Unread::Unassigned)
-    }
-}
-
-pub fn memory(op: Memory, w: u32) -> Read
-    ensures { λ r. ⌜ r ≡ reading.memory op w ⌝ }
-{
-    Read::Instr(Instr::Memory {
-        op,
-        df: width_at(memory_format(w) as usize),
+    let df = df(w);
+    let i = Instr::Three {
+        op: Op(k),
+        df,
         wd: vd(w),
-        offset: (w / 65536 % 1024) as u16,
+        ws: vs(w),
+        wt: vt(w),
+    };
+    given(w, has(f, df), i)
+}
+
+pub fn indexed(f: u64, k: u16, w: u32) -> Read
+    ensures { λ r. ⌜ r ≡ reading.readClass class.Indexed (formatsOf f) k w ⌝ }
+{
+    let df = df(w);
+    let i = Instr::Indexed {
+        op: Op(k),
+        df,
+        wd: vd(w),
+        ws: vs(w),
+        rt: gt(w),
+    };
+    given(w, has(f, df), i)
+}
+
+pub fn imm5_u(f: u64, k: u16, w: u32) -> Read
+    ensures { λ r. ⌜ r ≡ reading.readClass class.Imm5U (formatsOf f) k w ⌝ }
+{
+    let df = df(w);
+    let i = Instr::Imm5U {
+        op: Op(k),
+        df,
+        wd: vd(w),
+        ws: vs(w),
+        imm: imm5(w),
+    };
+    given(w, has(f, df), i)
+}
+
+pub fn imm5_s(f: u64, k: u16, w: u32) -> Read
+    ensures { λ r. ⌜ r ≡ reading.readClass class.Imm5S (formatsOf f) k w ⌝ }
+{
+    let df = df(w);
+    let i = Instr::Imm5S {
+        op: Op(k),
+        df,
+        wd: vd(w),
+        ws: vs(w),
+        imm: imm5(w),
+    };
+    given(w, has(f, df), i)
+}
+
+pub fn ldi(f: u64, k: u16, w: u32) -> Read
+    ensures { λ r. ⌜ r ≡ reading.readClass class.Ldi (formatsOf f) k w ⌝ }
+{
+    let df = df(w);
+    let i = Instr::Ldi {
+        df,
+        wd: vd(w),
+        imm: (w / 2048 % 1024) as u16,
+    };
+    given(w, has(f, df), i)
+}
+
+pub fn bit(f: u64, k: u16, w: u32) -> Read
+    ensures { λ r. ⌜ r ≡ reading.readClass class.Bit (formatsOf f) k w ⌝ }
+{
+    let x = bit_index((w / 65536 % 128) as u8);
+    let ok = x.ok;
+    let df = x.df;
+    let n = x.n;
+    let i = Instr::Bit {
+        op: Op(k),
+        df,
+        wd: vd(w),
+        ws: vs(w),
+        m: n,
+    };
+    given(w, ok & has(f, df), i)
+}
+
+pub fn imm_8(k: u16, w: u32) -> Read
+    ensures { λ r. ⌜ r ≡ reading.readClass class.Imm8 (formatsOf 0) k w ⌝ }
+{
+    Read::Instr(Instr::Imm8 {
+        op: Op(k),
+        wd: vd(w),
+        ws: vs(w),
+        imm: imm8(w),
+    })
+}
+
+pub fn shf(f: u64, k: u16, w: u32) -> Read
+    ensures { λ r. ⌜ r ≡ reading.readClass class.Shf (formatsOf f) k w ⌝ }
+{
+    let df = width_at(w / 16777216 % 4);
+    let i = Instr::Shf {
+        df,
+        wd: vd(w),
+        ws: vs(w),
+        imm: imm8(w),
+    };
+    given(w, has(f, df), i)
+}
+
+pub fn element(f: u64, k: u16, w: u32) -> Read
+    ensures { λ r. ⌜ r ≡ reading.readClass class.Element (formatsOf f) k w ⌝ }
+{
+    let x = element_index((w / 65536 % 64) as u8);
+    let ok = x.ok;
+    let df = x.df;
+    let n = x.n;
+    let i = Instr::Element {
+        op: Op(k),
+        df,
+        wd: vd(w),
+        ws: vs(w),
+        n,
+    };
+    given(w, ok & has(f, df), i)
+}
+
+pub fn insve(f: u64, k: u16, w: u32) -> Read
+    ensures { λ r. ⌜ r ≡ reading.readClass class.Insve (formatsOf f) k w ⌝ }
+{
+    let x = element_index((w / 65536 % 64) as u8);
+    let ok = x.ok;
+    let df = x.df;
+    let n = x.n;
+    let i = Instr::Insve {
+        df,
+        wd: vd(w),
+        n,
+        ws: vs(w),
+    };
+    given(w, ok & has(f, df), i)
+}
+
+pub fn copied(f: u64, k: u16, w: u32) -> Read
+    ensures { λ r. ⌜ r ≡ reading.readClass class.Copy (formatsOf f) k w ⌝ }
+{
+    let x = element_index((w / 65536 % 64) as u8);
+    let ok = x.ok;
+    let df = x.df;
+    let n = x.n;
+    let i = Instr::Copy {
+        op: Op(k),
+        df,
+        rd: gd(w),
+        ws: vs(w),
+        n,
+    };
+    given(w, ok & has(f, df), i)
+}
+
+pub fn insert(f: u64, k: u16, w: u32) -> Read
+    ensures { λ r. ⌜ r ≡ reading.readClass class.Insert (formatsOf f) k w ⌝ }
+{
+    let x = element_index((w / 65536 % 64) as u8);
+    let ok = x.ok;
+    let df = x.df;
+    let n = x.n;
+    let i = Instr::Insert {
+        df,
+        wd: vd(w),
+        n,
+        rs: gs(w),
+    };
+    given(w, ok & has(f, df), i)
+}
+
+pub fn move_v(w: u32) -> Read
+    ensures { λ r. ⌜ r ≡ reading.readClass class.Move (formatsOf 0) 0 w ⌝ }
+{
+    Read::Instr(Instr::Move {
+        wd: vd(w),
+        ws: vs(w),
+    })
+}
+
+pub fn cfcmsa(w: u32) -> Read
+    ensures { λ r. ⌜ r ≡ reading.readClass class.Cfcmsa (formatsOf 0) 0 w ⌝ }
+{
+    Read::Instr(Instr::Cfcmsa {
+        rd: gd(w),
+        cs: cs(w),
+    })
+}
+
+pub fn ctcmsa(w: u32) -> Read
+    ensures { λ r. ⌜ r ≡ reading.readClass class.Ctcmsa (formatsOf 0) 0 w ⌝ }
+{
+    Read::Instr(Instr::Ctcmsa {
+        cd: cd(w),
         rs: gs(w),
     })
 }
 
-pub fn branch_in(cell: BranchCell, w: u32) -> Read
-    ensures { λ r. ⌜ r ≡ reading.branchIn cell w ⌝ }
+pub fn vec(k: u16, w: u32) -> Read
+    ensures { λ r. ⌜ r ≡ reading.readClass class.Vec (formatsOf 0) k w ⌝ }
 {
-    match cell {
-        BranchCell::Other => Read::Not(Unread::Other),
-        BranchCell::Whole(op) => Read::Instr(Instr::BranchV {
-            op,
-            wt: vt(w),
-            offset: offset(w),
-        }),
-        BranchCell::Each(op) => Read::Instr(Instr::Branch {
-            op,
-            df: df(w),
-            wt: vt(w),
-            offset: offset(w),
-        }),
-    }
+    Read::Instr(Instr::Vec {
+        op: Op(k),
+        wd: vd(w),
+        ws: vs(w),
+        wt: vt(w),
+    })
 }
 
-pub fn scaled_in(op: Scaled, w: u32) -> Read
-    ensures { λ r. ⌜ r ≡ reading.scaledIn op w ⌝ }
+pub fn fill(f: u64, k: u16, w: u32) -> Read
+    ensures { λ r. ⌜ r ≡ reading.readClass class.Fill (formatsOf f) k w ⌝ }
 {
-    if w / 256 % 8 == 0 {
-        Read::Instr(Instr::Scaled {
-            op,
-            rd: gs(w),
-            rs: ga(w),
-            rt: gt(w),
-            sa: (w / 64 % 4) as u8,
-        })
-    } else {
-        Read::Not(Unread::Other)
-    }
+    let df = width_at(w / 65536 % 4);
+    let i = Instr::Fill {
+        df,
+        wd: vd(w),
+        rs: gs(w),
+    };
+    given(w, has(f, df), i)
 }
 
-pub fn read_special(w: u32) -> Read
-    ensures { λ r. ⌜ r ≡ reading.readSpecial w ⌝ }
+pub fn count(f: u64, k: u16, w: u32) -> Read
+    ensures { λ r. ⌜ r ≡ reading.readClass class.Count (formatsOf f) k w ⌝ }
 {
-    let low = minor(w);
-    if low == 5 {
-        return scaled_in(Scaled::Lsa, w);
-    }
-    if low == 21 {
-        return scaled_in(Scaled::Dlsa, w);
-    }
-    Read::Not(Unread::Other)
+    let df = width_at(w / 65536 % 4);
+    let i = Instr::Count {
+        op: Op(k),
+        df,
+        wd: vd(w),
+        ws: vs(w),
+    };
+    given(w, has(f, df), i)
+}
+
+pub fn memory(f: u64, k: u16, w: u32) -> Read
+    ensures { λ r. ⌜ r ≡ reading.readClass class.Memory (formatsOf f) k w ⌝ }
+{
+    let df = width_at(w % 4);
+    let i = Instr::Memory {
+        op: Op(k),
+        df,
+        wd: vd(w),
+        offset: (w / 65536 % 1024) as u16,
+        rs: gs(w),
+    };
+    given(w, has(f, df), i)
+}
+
+pub fn branch(f: u64, k: u16, w: u32) -> Read
+    ensures { λ r. ⌜ r ≡ reading.readClass class.Branch (formatsOf f) k w ⌝ }
+{
+    let df = df(w);
+    let i = Instr::Branch {
+        op: Op(k),
+        df,
+        wt: vt(w),
+        offset: offset(w),
+    };
+    given(w, has(f, df), i)
+}
+
+pub fn branch_v(k: u16, w: u32) -> Read
+    ensures { λ r. ⌜ r ≡ reading.readClass class.BranchV (formatsOf 0) k w ⌝ }
+{
+    let i = Instr::BranchV {
+        op: Op(k),
+        wt: vt(w),
+        offset: offset(w),
+    };
+    given(w, w / 2097152 % 4 == 3, i)
+}
+
+pub fn scaled(k: u16, w: u32) -> Read
+    ensures { λ r. ⌜ r ≡ reading.readClass class.Scaled (formatsOf 0) k w ⌝ }
+{
+    let i = Instr::Scaled {
+        op: Op(k),
+        rd: gs(w),
+        rs: ga(w),
+        rt: gt(w),
+        sa: (w / 64 % 4) as u8,
+    };
+    given(w, w / 256 % 8 == 0, i)
 }

@@ -1,98 +1,55 @@
-// Reading a 32-bit word as one instruction, or as 12, 13 or 14.
+// Reading a 32-bit word as one instruction, or as 12, 13 or 14: the place of its operation in the table, and the
+// operands that the class there has.
 mod classes;
+mod index;
 mod operands;
-mod places;
+mod place;
 
-use crate::classes::bit_at;
-use crate::classes::branch_in;
-use crate::classes::left_if;
-use crate::classes::memory;
-use crate::classes::read_element;
-use crate::classes::read_special;
-use crate::classes::read_three;
-use crate::classes::vec_in;
-use crate::operands::df;
-use crate::operands::gt;
-use crate::operands::minor;
-use crate::operands::vd;
-use crate::operands::vs;
-use crate::places::bit_place;
-use cells::Cell;
-use cells::cell_in;
-use cells::tables::branch_at;
-use cells::tables::row_at;
-use cells::tables::vec_at;
-use isa::Instr;
+use crate::classes::*;
+use crate::place::place_of;
 use isa::Read;
 use isa::Unread;
+use ops::byte_at;
 ghost use mathlib.Core.Path.{_≡_};
+ghost use Rattle.ops.specs.Packed.{classOf, formatsOf};
 ghost use Rattle.reading.specs.Reading as reading;
 
-fn read_cell(cell: Cell, w: u32) -> Read
-    ensures { λ r. ⌜ r ≡ reading.readCell cell w ⌝ }
+// By the numbers of the class and of the formats at the place k (ops/specs/Packed.antt).
+fn read_class(n: u64, f: u64, k: u16, w: u32) -> Read
+    ensures { λ r. ⌜ r ≡ reading.readClass (classOf n) (formatsOf f) k w ⌝ }
 {
-    match cell {
-        Cell::Reserved => Read::Not(Unread::Unassigned),
-        Cell::LeftOut => Read::Not(Unread::LeftOut),
-        Cell::LeftEven => left_if(0, w),
-        Cell::LeftOdd => left_if(1, w),
-        Cell::Three(op) => read_three(op, w),
-        Cell::Indexed(op) => Read::Instr(Instr::Indexed {
-            op,
-            df: df(w),
-            wd: vd(w),
-            ws: vs(w),
-            rt: gt(w),
-        }),
-        Cell::Imm5(op) => Read::Instr(Instr::Imm5 {
-            op,
-            df: df(w),
-            wd: vd(w),
-            ws: vs(w),
-            imm: (w / 65536 % 32) as u8,
-        }),
-        Cell::Ldi => Read::Instr(Instr::Ldi {
-            df: df(w),
-            wd: vd(w),
-            imm: (w / 2048 % 1024) as u16,
-        }),
-        Cell::Bit(op) => bit_at(op, bit_place((w / 65536 % 128) as u8), vd(w), vs(w)),
-        Cell::Imm8(op) => Read::Instr(Instr::Imm8 {
-            op,
-            wd: vd(w),
-            ws: vs(w),
-            imm: (w / 65536 % 256) as u8,
-        }),
-        Cell::Shf(df) => Read::Instr(Instr::Shf {
-            df,
-            wd: vd(w),
-            ws: vs(w),
-            imm: (w / 65536 % 256) as u8,
-        }),
-        Cell::Elm => read_element(w),
-        Cell::Vec => vec_in(vec_at((w / 2097152 % 32) as usize), w),
-        Cell::Memory(op) => memory(op, w),
+    match n {
+        1 => three(f, k, w),
+        2 => indexed(f, k, w),
+        3 => imm5_u(f, k, w),
+        4 => imm5_s(f, k, w),
+        5 => ldi(f, k, w),
+        6 => bit(f, k, w),
+        7 => imm_8(k, w),
+        8 => shf(f, k, w),
+        9 => element(f, k, w),
+        10 => insve(f, k, w),
+        11 => copied(f, k, w),
+        12 => insert(f, k, w),
+        13 => move_v(w),
+        14 => cfcmsa(w),
+        15 => ctcmsa(w),
+        16 => vec(k, w),
+        17 => fill(f, k, w),
+        18 => count(f, k, w),
+        19 => memory(f, k, w),
+        20 => branch(f, k, w),
+        21 => branch_v(k, w),
+        22 => scaled(k, w),
+        23 => Read::Not(Unread::LeftOut),
+        _ => vacant(w),
     }
-}
-
-fn cell_of(w: u32) -> Cell
-    ensures { λ r. ⌜ r ≡ reading.cellOf w ⌝ }
-{
-    cell_in(row_at(minor(w) as usize), (w / 8388608 % 8) as usize)
 }
 
 pub fn read_word(w: u32) -> Read
     ensures { λ r. ⌜ reading.Reads w r ⌝ }
 {
-    let major = w / 67108864 % 64;
-    if major == 30 {
-        return read_cell(cell_of(w), w);
-    }
-    if major == 17 {
-        return branch_in(branch_at((w / 2097152 % 32) as usize), w);
-    }
-    if major == 0 {
-        return read_special(w);
-    }
-    Read::Not(Unread::Other)
+    let k = place_of(w);
+    let byte = byte_at(k as u32);
+    read_class(byte % 32, byte / 32, k, w)
 }

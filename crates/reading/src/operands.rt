@@ -1,9 +1,6 @@
 // The operands of a word, by the register file that they name and the place where they stand.
-use cells::tables::width_at;
-use isa::Creg;
-use isa::Greg;
-use isa::Vreg;
-use isa::Width;
+use isa::widths::width_at;
+use isa::*;
 ghost use mathlib.Core.Path.{_≡_};
 ghost use Rattle.fields.specs.Fields.{bits};
 ghost use Rattle.reading.specs.Reading as reading;
@@ -11,7 +8,7 @@ ghost use Rattle.reading.specs.Reading as reading;
 pub fn df(w: u32) -> Width
     ensures { λ r. ⌜ r ≡ reading.df w ⌝ }
 {
-    width_at((w / 2097152 % 4) as usize)
+    width_at(w / 2097152 % 4)
 }
 
 pub fn vt(w: u32) -> Vreg
@@ -68,20 +65,21 @@ pub fn cd(w: u32) -> Creg
     Creg((w / 64 % 32) as u8)
 }
 
-pub fn minor(w: u32) -> u32
-    ensures { λ r. ⌜ r ≡ bits w 5 0 ⌝ }
+// The immediates and offsets.
+pub fn imm5(w: u32) -> u8
+    ensures { λ r. ⌜ r ≡ bits w 20 16 ⌝ }
 {
-    w % 64
+    (w / 65536 % 32) as u8
+}
+
+pub fn imm8(w: u32) -> u8
+    ensures { λ r. ⌜ r ≡ bits w 23 16 ⌝ }
+{
+    (w / 65536 % 256) as u8
 }
 
 pub fn offset(w: u32) -> u16
     ensures { λ r. ⌜ r ≡ bits w 15 0 ⌝ }
 {
     (w % 65536) as u16
-}
-
-pub fn memory_format(w: u32) -> u32
-    ensures { λ r. ⌜ r ≡ bits w 1 0 ⌝ }
-{
-    w % 4
 }

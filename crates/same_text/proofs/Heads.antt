@@ -1,21 +1,19 @@
 -- The mnemonic and the letter of the format, read off a text. Assumes nothing.
-use mathlib.Core.Path.{_≡_, refl, sym, ap, _∙_}
+use mathlib.Core.Path.{_≡_, refl, ap, _∙_}
 use mathlib.Core.Bool.{Bool, true, false}
 use mathlib.Core.List.{List, [], _∷_, _++_, append-assoc}
-use Prim.Native.Nat.{ℕ, suc, _+_, _/_, _%_, _≤_}
-use Prim.Native.String.{String}
+use Prim.Native.Nat.{ℕ, _+_, _≤_}
 use native.Mathlib.Omega.{arith}
-use borrow.Author.Tests.{leb-true, le-ltb, ne-eqb, eqb-true}
-use lib.Dec.{eqb, leb, ltb}
+use borrow.Author.Tests.{leb-true, le-ltb, ne-eqb}
+use lib.Dec.{eqb, leb}
 use lib.ListN.{length, getD}
 use lib.Seq.{getD-append-add}
 use Rattle.isa.specs.declared.Width.the-variants.{B, H, W, D}
 use Rattle.fields.specs.Fields.{pick, both}
 use Rattle.fields.proofs.Fields.{both-left, both-right}
-use Rattle.fields.proofs.Table.{at}
 use Rattle.text.specs.Text.{bytes}
-use Rattle.names.specs.Names.{names, name}
-use Rattle.names.proofs.Names.{same}
+use Rattle.ops.specs.Table.{table, rowAt, mnemonic}
+use Rattle.ops.proofs.Find.{rule}
 use Rattle.shown.specs.declared.Form.{Form}
 use Rattle.shown.specs.declared.Form.the-variants.{Bare, Each, Whole}
 use Rattle.shown.specs.declared.Shown.{Shown}
@@ -29,9 +27,9 @@ unfoldable high : List ℕ → Bool
 high [] = true
 high (c ∷ cs) = both (leb 65 c) (high cs)
 
-name-high : (k : ℕ) → high (name k) ≡ true
-unfolding high
-name-high k = at (λ k s. high (bytes s)) "" (λ k. refl) names refl k
+name-high : (k : ℕ) → high (mnemonic k) ≡ true
+unfolding high rowAt
+name-high k = rule (λ k r. high (bytes (r .name))) (λ k. refl) table refl k
 
 high-run : (xs rest : List ℕ) → high xs ≡ true → run 0 false (xs ++ rest) ≡ run 0 false rest
 unfolding run high
@@ -55,19 +53,12 @@ unfolding head high
 head-high [] c rest h e = e
 head-high (x ∷ xs) c rest h e =
     let l : 65 ≤ x = leb-true 65 x (both-left (leb 65 x) (high xs) h) in
-    rw (ne-eqb x 46 (omega arith), ne-eqb x 32 (omega arith)) (ap (λ t. x ∷ t) (head-high xs c rest (both-right (leb 65 x) (high xs) h) e))
+    rw (ne-eqb x 46 (omega arith), ne-eqb x 32 (omega arith))
+    (ap (λ t. x ∷ t) (head-high xs c rest (both-right (leb 65 x) (high xs) h) e))
 
 -- the letter at a place behind a dot, 0 where there is no dot
 unfoldable pub letterAt : ℕ → List ℕ → ℕ
 letterAt n t = pick (eqb (getD t (n + 0) 0) 46) (getD t (n + 1) 0) 0
-
--- the place of a mnemonic in the table
-unfoldable pub find : List String → ℕ → List ℕ → ℕ
-find [] k x = k
-find (s ∷ ss) k x = pick (same (bytes s) x) k (find ss (suc k) x)
-
-unfoldable pub lookup : List ℕ → ℕ
-lookup x = find names 0 x
 
 abbrev pub formLetter : Form → ℕ
 formLetter Bare = 0
@@ -94,7 +85,9 @@ tail-head xs Whole ops h = head-high xs 46 (86 ∷ 32 ∷ ops) h refl
 tail-letter : (xs : List ℕ) (f : Form) (ops : List ℕ) → letterAt (length xs) (xs ++ tail f ops) ≡ formLetter f
 unfolding letterAt
 tail-letter xs Bare ops = rw (getD-append-add xs (32 ∷ ops) 0 0)
-tail-letter xs (Each df) ops = rw (getD-append-add xs (46 ∷ letter df ∷ 32 ∷ ops) 0 0, getD-append-add xs (46 ∷ letter df ∷ 32 ∷ ops) 1 0)
+tail-letter xs (Each df) ops =
+    let t : List ℕ = 46 ∷ letter df ∷ 32 ∷ ops in
+    rw (getD-append-add xs t 0 0, getD-append-add xs t 1 0)
 tail-letter xs Whole ops = rw (getD-append-add xs (46 ∷ 86 ∷ 32 ∷ ops) 0 0, getD-append-add xs (46 ∷ 86 ∷ 32 ∷ ops) 1 0)
 
 tail-run : (f : Form) (ops : List ℕ) → run 0 false (tail f ops) ≡ run 0 false ops
@@ -110,19 +103,21 @@ module _ (s : Shown) where
   abbrev ops : List ℕ
   ops = operandsText (s .a) (s .b) (s .c) (s .d)
 
-  pub head-of : head (shownText s) ≡ name (s .name)
-  head-of = ap head (tail-text (name (s .name)) (s .form) ops) ∙ tail-head (name (s .name)) (s .form) ops (name-high (s .name))
+  pub head-of : head (shownText s) ≡ mnemonic (s .name)
+  head-of =
+      ap head (tail-text (mnemonic (s .name)) (s .form) ops)
+      ∙ tail-head (mnemonic (s .name)) (s .form) ops (name-high (s .name))
 
   pub letter-of : letterAt (length (head (shownText s))) (shownText s) ≡ formLetter (s .form)
   letter-of =
       ap (λ x. letterAt (length x) (shownText s)) head-of
-      ∙ ap (letterAt (length (name (s .name)))) (tail-text (name (s .name)) (s .form) ops)
-      ∙ tail-letter (name (s .name)) (s .form) ops
+      ∙ ap (letterAt (length (mnemonic (s .name)))) (tail-text (mnemonic (s .name)) (s .form) ops)
+      ∙ tail-letter (mnemonic (s .name)) (s .form) ops
 
   pub tokens-of : Short (s .a) → Short (s .b) → Short (s .c) → Short (s .d)
       → run 0 false (shownText s) ≡ tokens (s .a) (tokens (s .b) (tokens (s .c) (tokens (s .d) [])))
   tokens-of sa sb sc sd =
-      ap (run 0 false) (tail-text (name (s .name)) (s .form) ops)
-      ∙ high-run (name (s .name)) (tail (s .form) ops) (name-high (s .name))
+      ap (run 0 false) (tail-text (mnemonic (s .name)) (s .form) ops)
+      ∙ high-run (mnemonic (s .name)) (tail (s .form) ops) (name-high (s .name))
       ∙ tail-run (s .form) ops
       ∙ operands-run (s .a) (s .b) (s .c) (s .d) sa sb sc sd

@@ -2,5 +2,4 @@ pub mod Scan
 pub mod Tokens
 pub mod Heads
 pub mod Rebuild
-pub mod Named
 pub mod SameText

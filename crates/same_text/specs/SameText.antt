@@ -8,4 +8,5 @@ use Rattle.listing.specs.Listing.{textOf}
 
 abbrev pub SameText : Type 0
 SameText =
-    (w w′ : ℕ) (i i′ : Instr) → w < 2 ^ 32 → w′ < 2 ^ 32 → readOf w ≡ read.Instr i → readOf w′ ≡ read.Instr i′ → textOf w ≡ textOf w′ → w ≡ w′
+    (w w′ : ℕ) (i i′ : Instr) → w < 2 ^ 32 → w′ < 2 ^ 32 → readOf w ≡ read.Instr i → readOf w′ ≡ read.Instr i′
+    → textOf w ≡ textOf w′ → w ≡ w′

@@ -2,26 +2,21 @@
 mod classes;
 mod numbers;
 
-use crate::classes::bit;
-use crate::classes::branch;
-use crate::classes::branch_v;
 use crate::classes::cfcmsa;
-use crate::classes::copied;
-use crate::classes::count;
+use crate::classes::copy;
 use crate::classes::ctcmsa;
 use crate::classes::element;
 use crate::classes::fill;
-use crate::classes::imm5;
-use crate::classes::imm8;
+use crate::classes::imm5_s;
 use crate::classes::indexed;
 use crate::classes::insert;
-use crate::classes::ldi;
+use crate::classes::insve;
 use crate::classes::memory;
-use crate::classes::move_v;
+use crate::classes::numbered;
 use crate::classes::scaled_add;
-use crate::classes::shf;
-use crate::classes::three;
-use crate::classes::vec;
+use crate::classes::three_vectors;
+use crate::classes::two_vectors;
+use crate::classes::with_sign;
 use isa::Creg;
 use isa::Greg;
 use isa::Instr;
@@ -55,9 +50,9 @@ pub enum Operand {
     Offset(Number, Greg),
 }
 
-// The place of the mnemonic in the table of names, the format, and up to four operands.
+// The place of the operation in the table, the format, and up to four operands.
 pub struct Shown {
-    pub name: u32,
+    pub name: u16,
     pub form: Form,
     pub a: Operand,
     pub b: Operand,
@@ -69,28 +64,36 @@ pub fn shown_of(i: Instr) -> Shown
     ensures { λ r. ⌜ r ≡ shows.shownOf i ⌝ }
 {
     match i {
-        Instr::Three { op, df, wd, ws, wt } => three(op, df, wd, ws, wt),
+        Instr::Three { op, df, wd, ws, wt } => three_vectors(op.0, Form::Each(df), wd, ws, wt),
         Instr::Indexed { op, df, wd, ws, rt } => indexed(op, df, wd, ws, rt),
-        Instr::Imm5 {
+        Instr::Imm5U {
             op,
             df,
             wd,
             ws,
             imm,
-        } => imm5(op, df, wd, ws, imm),
-        Instr::Ldi { df, wd, imm } => ldi(df, wd, imm),
-        Instr::Bit { op, df, wd, ws, m } => bit(op, df, wd, ws, m),
-        Instr::Imm8 { op, wd, ws, imm } => imm8(op, wd, ws, imm),
-        Instr::Shf { df, wd, ws, imm } => shf(df, wd, ws, imm),
+        } => numbered(op.0, Form::Each(df), wd, ws, imm as u16),
+        Instr::Imm5S {
+            op,
+            df,
+            wd,
+            ws,
+            imm,
+        } => imm5_s(op, df, wd, ws, imm),
+        Instr::Ldi { df, wd, imm } => with_sign(62, Form::Each(df), wd, 1024, imm),
+        Instr::Bit { op, df, wd, ws, m } => numbered(op.0, Form::Each(df), wd, ws, m as u16),
+        Instr::Imm8 { op, wd, ws, imm } => numbered(op.0, Form::Each(Width::B), wd, ws, imm as u16),
+        Instr::Shf { df, wd, ws, imm } => numbered(16, Form::Each(df), wd, ws, imm as u16),
         Instr::Element { op, df, wd, ws, n } => element(op, df, wd, ws, n),
-        Instr::Copy { op, df, rd, ws, n } => copied(op, df, rd, ws, n),
+        Instr::Insve { df, wd, n, ws } => insve(df, wd, n, ws),
+        Instr::Copy { op, df, rd, ws, n } => copy(op, df, rd, ws, n),
         Instr::Insert { df, wd, n, rs } => insert(df, wd, n, rs),
-        Instr::Move { wd, ws } => move_v(wd, ws),
+        Instr::Move { wd, ws } => two_vectors(338, Form::Whole, wd, ws),
         Instr::Cfcmsa { rd, cs } => cfcmsa(rd, cs),
         Instr::Ctcmsa { cd, rs } => ctcmsa(cd, rs),
-        Instr::Vec { op, wd, ws, wt } => vec(op, wd, ws, wt),
+        Instr::Vec { op, wd, ws, wt } => three_vectors(op.0, Form::Whole, wd, ws, wt),
         Instr::Fill { df, wd, rs } => fill(df, wd, rs),
-        Instr::Count { op, df, wd, ws } => count(op, df, wd, ws),
+        Instr::Count { op, df, wd, ws } => two_vectors(op.0, Form::Each(df), wd, ws),
         Instr::Memory {
             op,
             df,
@@ -98,8 +101,8 @@ pub fn shown_of(i: Instr) -> Shown
             offset,
             rs,
         } => memory(op, df, wd, offset, rs),
-        Instr::Branch { op, df, wt, offset } => branch(op, df, wt, offset),
-        Instr::BranchV { op, wt, offset } => branch_v(op, wt, offset),
+        Instr::Branch { op, df, wt, offset } => with_sign(op.0, Form::Each(df), wt, 65536, offset),
+        Instr::BranchV { op, wt, offset } => with_sign(op.0, Form::Whole, wt, 65536, offset),
         Instr::Scaled { op, rd, rs, rt, sa } => scaled_add(op, rd, rs, rt, sa),
     }
 }

@@ -43,12 +43,3 @@ pub fn scaled(df: Width, n: Number) -> Number
         Width::D => number(n.minus, n.size * 8),
     }
 }
-
-pub fn imm5_number(sign: bool, imm: u8) -> Number
-    ensures { λ r. ⌜ r ≡ shows.imm5Number sign imm ⌝ }
-{
-    if sign {
-        return signed(32, imm as u16);
-    }
-    number(false, imm as u16)
-}

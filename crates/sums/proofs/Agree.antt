@@ -15,11 +15,13 @@ use Rattle.plan.specs.Zero.{someZero}
 use Rattle.plan.proofs.NumberLaws.{scaled-sum-on}
 use Rattle.products.specs.Halves.{products, dotp, hsub}
 use Rattle.products.specs.Products.{mulv, quotient, remainder}
-use Rattle.reading.specs.Reading.{readOf}
+use Rattle.ops.specs.Table.{rowAt}
+use Rattle.ops.specs.Meaning.{zeroAt, scaledAt}
+use Rattle.reading.specs.Reading.{placeOf, readOf}
 use Rattle.state.specs.Machine.{Env}
 use Rattle.vectors.specs.Register.{element, build, whole}
 use Rattle.writing.specs.Writing.{writeOf}
-use Rattle.sums.specs.Sums.{Agree, sums}
+use Rattle.sums.specs.Sums.{Agree, names, sums}
 
 -- −2 as a number of 64 bits
 minus-two : wrap 64 (signed 16 0xFFFE) ≡ 2 ^ 64 - 2
@@ -35,7 +37,54 @@ all-bytes : (x : ℕ) → whole 8 (λ _. x) ≡ x * 0x01010101010101010101010101
 unfolding build
 all-bytes x = omega arith
 
+pub names-agree : Agree names
+unfolding rowAt
+names-agree = (refl, (refl, (refl, (refl, tt))))
+
 pub all-agree : (e : Env) (v g w : List ℕ) (a ws wt : ℕ) → Agree (sums e v g w a ws wt)
-unfolding writeOf readOf signed magnitude wrap clamp sat addA addsA asub subsuuS average quotient remainder products dotp hsub eachLane build element chosenByControl both planOf registerAt generalAt number someZero lsa
-all-agree e v g w a ws wt =
-    (refl, (refl, (refl, (refl, (refl, (refl, (rw (back-four a), (refl, (refl, (refl, (refl, (refl, (refl, (refl, (refl, (refl, (refl, (refl, (refl, (all-bytes (ws / 2 ^ 120 % 2 ^ 8), (refl, tt)))))))))))))))))))))
+unfolding writeOf readOf placeOf rowAt zeroAt scaledAt signed magnitude wrap clamp sat addA addsA asub subsuuS average
+    quotient remainder products dotp hsub eachLane build element chosenByControl both planOf registerAt generalAt number
+    someZero lsa
+all-agree e v g w a ws wt = (
+  refl,
+  (
+    refl,
+    (
+      refl,
+      (
+        refl,
+        (
+          refl,
+          (
+            refl,
+            (
+              rw (back-four a),
+              (
+                refl,
+                (
+                  refl,
+                  (
+                    refl,
+                    (
+                      refl,
+                      (
+                        refl,
+                        (
+                          refl,
+                          (
+                            refl,
+                            (refl, (refl, (refl, (refl, (refl, (all-bytes (ws / 2 ^ 120 % 2 ^ 8), (refl, tt))))))),
+                          ),
+                        ),
+                      ),
+                    ),
+                  ),
+                ),
+              ),
+            ),
+          ),
+        ),
+      ),
+    ),
+  ),
+)

@@ -4,26 +4,26 @@ use mathlib.Core.Path.{_≡_}
 use mathlib.Core.Bool.{true}
 use mathlib.Core.List.{List, [], _∷_, _++_}
 use Prim.Native.Nat.{ℕ, _+_, _-_, _*_, _/_, _%_, _^_}
+use Prim.Native.String.{String}
 use lib.ListN.{replicate}
 use Rattle.isa.specs.declared.Across.the-variants.{HsubS}
 use Rattle.isa.specs.declared.Addition.the-variants.{AddA, AddsA, AveS, AverS}
 use Rattle.isa.specs.declared.Arith.{Arith}
 use Rattle.isa.specs.declared.Arith.the-variants as arith
-use Rattle.isa.specs.declared.Basic.the-variants.{Addv}
 use Rattle.isa.specs.declared.Dot.the-variants.{DotpS}
 use Rattle.isa.specs.declared.Greg.{Greg}
-use Rattle.isa.specs.declared.Imm5.the-variants as imm5
 use Rattle.isa.specs.declared.Instr.{Instr}
 use Rattle.isa.specs.declared.Instr.the-variants as instr
+use Rattle.isa.specs.declared.Op.{Op}
 use Rattle.isa.specs.declared.Product.the-variants.{DivS, ModS}
 use Rattle.isa.specs.declared.Read.the-variants as read
-use Rattle.isa.specs.declared.Scaled.the-variants.{Lsa}
 use Rattle.isa.specs.declared.Subtraction.the-variants.{SubsuuS, AsubS}
 use Rattle.isa.specs.declared.Three.the-variants as three
 use Rattle.isa.specs.declared.Vreg.{Vreg}
 use Rattle.isa.specs.declared.Width.the-variants.{B, W}
 use Rattle.isa.specs.declared.Written.the-variants.{Word}
-use Rattle.isa.specs.declared.Zero.the-variants.{Bnz}
+use Rattle.ops.specs.Places as place
+use Rattle.ops.specs.Table.{rowAt}
 use Rattle.forms.specs.Forms.{threeOf}
 use Rattle.plan.specs.declared.Plan.the-variants as plan
 use Rattle.plan.specs.Plan.{planOf}
@@ -50,21 +50,37 @@ $w n = record { 0 = n }
 abbrev $ : ℕ → Greg
 $ n = record { 0 = n }
 
+-- the operation at a place
+abbrev op : ℕ → Op
+op k = record { 0 = k }
+
 -- ADDV.W $w5,$w1,$w2
 abbrev addv : Instr
-addv = instr.Three (three.Arith (arith.Basic Addv)) W ($w 5) ($w 1) ($w 2)
+addv = instr.Three (op (place.minor 14 0)) W ($w 5) ($w 1) ($w 2)
 
 -- ADDVI.W $w7,$w1,17
 abbrev addvi : Instr
-addvi = instr.Imm5 (imm5.Basic Addv) W ($w 7) ($w 1) 17
+addvi = instr.Imm5U (op (place.minor 6 0)) W ($w 7) ($w 1) 17
 
 -- BNZ.B $w3,−2
 abbrev bnz : Instr
-bnz = instr.Branch Bnz B ($w 3) 0xFFFE
+bnz = instr.Branch (op (place.branch 7)) B ($w 3) 0xFFFE
 
 -- LSA $1,$2,$3,1: the field is the shift less one
 abbrev lsa : Instr
-lsa = instr.Scaled Lsa ($ 1) ($ 2) ($ 3) 0
+lsa = instr.Scaled (op (place.special 5)) ($ 1) ($ 2) ($ 3) 0
+
+-- the mnemonics of these four
+abbrev named : ℕ → String → Sum
+named k name = sum (rowAt k .name) name
+
+abbrev pub names : List Sum
+names =
+    named (place.minor 14 0) "ADDV"
+    ∷ named (place.minor 6 0) "ADDVI"
+    ∷ named (place.branch 7) "BNZ"
+    ∷ named (place.special 5) "LSA"
+    ∷ []
 
 -- a machine at address a, with its switch on and its slot mark clear
 abbrev at : ℕ → List ℕ → List ℕ → List ℕ → Machine

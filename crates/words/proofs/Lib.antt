@@ -1,4 +1,4 @@
-pub mod Tables
+pub mod Blocks
 pub mod ReadWrite
 pub mod WriteRead
 pub mod Answers

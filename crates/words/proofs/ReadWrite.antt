@@ -1,59 +1,47 @@
 -- A word that reads as an instruction is the word of that instruction. Assumes nothing.
-use mathlib.Core.Path.{_≡_, refl, sym, ap, _∙_, subst}
-use mathlib.Core.Bool.{Bool, true}
+use mathlib.Core.Path.{_≡_, refl, sym, _∙_, subst}
+use mathlib.Core.Bool.{Bool, true, false, cond}
 use mathlib.Core.List.{[], _∷_}
 use Prim.Native.Nat.{ℕ, zero, suc, _+_, _-_, _*_, _/_, _%_, _^_, _<_, _≤_}
 use native.Mathlib.Omega.{arith}
-use borrow.Author.Tests.{ltb-true, ltb-false, eqb-true, eqb-false, lt-ltb}
+use borrow.Author.Tests.{eqb-true, eqb-false, lt-ltb}
 use lib.Dec.{eqb, ltb}
-use lib.Pow.{field, shr-shr}
-use Rattle.isa.specs.declared.Width.{Width}
 use Rattle.isa.specs.declared.Width.the-variants.{B, H, W, D}
-use Rattle.isa.specs.declared.Scaled.the-variants.{Lsa, Dlsa}
-use Rattle.isa.specs.declared.Scaled.{Scaled}
-use Rattle.isa.specs.declared.BitOp.{BitOp}
 use Rattle.isa.specs.declared.Instr.{Instr}
+use Rattle.isa.specs.declared.Instr.the-variants as instr
 use Rattle.isa.specs.declared.Unread.the-variants.{Unassigned, LeftOut, Other}
 use Rattle.isa.specs.declared.Read.{Read}
 use Rattle.isa.specs.declared.Read.the-variants as read
 use Rattle.isa.specs.declared.Written.the-variants.{Word}
-use Rattle.cells.specs.declared.Cell.{Cell}
-use Rattle.cells.specs.declared.Cell.the-variants as cell
-use Rattle.cells.specs.declared.ElementCell.{ElementCell}
-use Rattle.cells.specs.declared.ElementCell.the-variants as element
-use Rattle.cells.specs.declared.Control.{Control}
-use Rattle.cells.specs.declared.Control.the-variants as control
-use Rattle.cells.specs.declared.VecCell.{VecCell}
-use Rattle.cells.specs.declared.VecCell.the-variants as vec
-use Rattle.cells.specs.declared.TwoCell.{TwoCell}
-use Rattle.cells.specs.declared.TwoCell.the-variants as two
-use Rattle.cells.specs.declared.BranchCell.{BranchCell}
-use Rattle.cells.specs.declared.BranchCell.the-variants as branch
-use Rattle.reading.specs.declared.places.Place.{Place}
-use Rattle.reading.specs.declared.places.Place.the-variants as place
 use Rattle.isa.specs.Widths as format
-use Rattle.codes.specs.Codes as codes
-use Rattle.codes.specs.Forms.{hasForm, copyForm, notD}
-use Rattle.fields.specs.Fields.{pick, both, bits, total}
-use Rattle.cells.specs.Tables.{widthAt, elementAt, controlAt, vecAt, twoAt, branchAt}
+use Rattle.isa.specs.Widths.{widthAt, widthCode}
+use Rattle.ops.specs.Classes.{Class}
+use Rattle.ops.specs.Classes as class
+use Rattle.ops.specs.Places as place
+use Rattle.ops.specs.Table.{classAt, formatsAt, hasForm}
+use Rattle.reading.specs.declared.index.Index.{Index}
+use Rattle.fields.specs.Fields.{both, bits, total}
+use Rattle.reading.specs.Index.{at, bitIndex, elementIndex}
 use Rattle.reading.specs.Reading as reading
-use Rattle.reading.specs.Reading.{readOf}
+use Rattle.reading.specs.Reading.{Block, i8, minor, elm, elm62, vec, float, two, mi10, branch, special, shf}
+use Rattle.reading.specs.Reading.{placeIn, placeOf, op, df, vd, vs, vt, ga, gd, gs, gt, readOf, readClass, vacant}
 use Rattle.writing.specs.Writing as writing
 use Rattle.writing.specs.Writing.{writeOf, layoutOf}
 use Rattle.words.specs.Theorems.{ReadWrite}
-use Rattle.fields.proofs.Fields.{both-left, both-right, pick-elim, cut, word-cut, fits-cut}
+use Rattle.fields.proofs.Fields.{both-left, both-right, cut, word-cut, fits-cut}
 use Rattle.writing.proofs.Shapes.{shaped}
-use Rattle.words.proofs.Tables.{stands, cell-stands, element-stands, element-at, control-stands, control-at, vec-stands, vec-at, two-stands, two-at, branch-stands, branch-at}
+use Rattle.words.proofs.Blocks.{Facts, inside, cond-elim, below, found, standing, stood, sole}
 
 -- an instruction whose fields are those of the word is written as the word
-writes : (i : Instr) (w : ℕ) → w < 4294967296 → layoutOf i .ok ≡ true → layoutOf i .values ≡ cut (layoutOf i .widths) w → writeOf i ≡ Word w
+writes : (i : Instr) (w : ℕ) → w < 4294967296 → layoutOf i .ok ≡ true
+    → layoutOf i .values ≡ cut (layoutOf i .widths) w → writeOf i ≡ Word w
 unfolding writeOf
 writes i w h ok e =
     let l : w < 2 ^ total (layoutOf i .widths) = rw (shaped i .whole) h in
     rw (ok, e, fits-cut (layoutOf i .widths) w, word-cut (layoutOf i .widths) w l)
 
 -- a format's number
-code-width : (k : ℕ) → k < 4 → codes.widthCode (widthAt k) ≡ k
+code-width : (k : ℕ) → k < 4 → widthCode (widthAt k) ≡ k
 code-width zero h = refl
 code-width (suc zero) h = refl
 code-width (suc (suc zero)) h = refl
@@ -66,159 +54,250 @@ fields : {a b c d e f g a′ b′ c′ d′ e′ f′ g′ : ℕ} → a ≡ a′
 fields p q r s t u v = λ i. p i ∷ q i ∷ r i ∷ s i ∷ t i ∷ u i ∷ v i ∷ []
 
 -- what is to be shown of an answer: the major opcode where the word is not read, the round trip where it is
-abbrev pub Back : ℕ → Read → Type 0
+unfoldable pub Back : ℕ → Read → Type 0
 Back w (read.Not Unassigned) = 30 ≡ bits w 31 26
 Back w (read.Not LeftOut) = 30 ≡ bits w 31 26
 Back w (read.Not Other) = 30 ≡ bits w 31 26 → ⊥
 Back w (read.Instr i) = writeOf i ≡ Word w
 
--- a place is that of its format and index
-abbrev BitOk : ℕ → Place → Type 0
-BitOk x place.Reserved = Unit {0}
-BitOk x (place.At df m) = (writing.bitCode df m ≡ x) × (ltb m (format.bits df) ≡ true)
+-- a field that holds a format and an index is that of both
+abbrev BitOk : ℕ → Index → Type 0
+BitOk x i = i .ok ≡ true → (writing.bitCode (i .df) (i .n) ≡ x) × (ltb (i .n) (format.bits (i .df)) ≡ true)
 
-abbrev ElementOk : ℕ → Place → Type 0
-ElementOk x place.Reserved = Unit {0}
-ElementOk x (place.At df n) = (writing.elementPlaceCode df n ≡ x) × (ltb n (format.elements df) ≡ true)
+abbrev ElementOk : ℕ → Index → Type 0
+ElementOk x i = i .ok ≡ true → (writing.elementCode (i .df) (i .n) ≡ x) × (ltb (i .n) (format.elements (i .df)) ≡ true)
 
-below : (x n : ℕ) (P : Place → Type 0) (p q : Place) → (x < n → P p) → (n ≤ x → P q) → P (pick (ltb x n) p q)
-below x n P p q f g = pick-elim P (ltb x n) p q (λ e. f (ltb-true x n e)) (λ e. g (ltb-false x n e))
+no : {A : Type 0} → false ≡ true → A
+no e = absurd (let z : _≡_ {A = ℕ} 0 1 = cc in omega arith)
 
-bit-place : (x : ℕ) → BitOk x (reading.bitPlace x)
-bit-place x =
-    below x 64 (BitOk x) (place.At D x) _ (λ h. (refl, lt-ltb _ _ h))
-    (λ l. below x 96 (BitOk x) (place.At W (x - 64)) _ (λ h. (omega arith, lt-ltb (x - 64) 32 (omega arith)))
-    (λ l. below x 112 (BitOk x) (place.At H (x - 96)) _ (λ h. (omega arith, lt-ltb (x - 96) 16 (omega arith)))
-    (λ l. below x 120 (BitOk x) (place.At B (x - 112)) _ (λ h. (omega arith, lt-ltb (x - 112) 8 (omega arith))) (λ l. tt))))
+bit-index : (x : ℕ) → BitOk x (bitIndex x)
+bit-index x =
+    below (BitOk x) x 64 (at D x) _ (λ h e. (refl, lt-ltb _ _ h))
+    (λ l. below (BitOk x) x 96 (at W (x - 64)) _ (λ h e. (omega arith, lt-ltb (x - 64) 32 (omega arith)))
+    (λ l. below (BitOk x) x 112 (at H (x - 96)) _ (λ h e. (omega arith, lt-ltb (x - 96) 16 (omega arith)))
+    (λ l. below (BitOk x) x 120 (at B (x - 112)) _ (λ h e. (omega arith, lt-ltb (x - 112) 8 (omega arith)))
+    (λ l e. no e))))
 
-element-place : (x : ℕ) → ElementOk x (reading.elementPlace x)
-element-place x =
-    below x 16 (ElementOk x) (place.At B x) _ (λ h. (refl, lt-ltb _ _ h))
-    (λ l. below x 32 (ElementOk x) _ _ (λ h. tt)
-    (λ l. below x 40 (ElementOk x) (place.At H (x - 32)) _ (λ h. (omega arith, lt-ltb (x - 32) 8 (omega arith)))
-    (λ l. below x 48 (ElementOk x) _ _ (λ h. tt)
-    (λ l. below x 52 (ElementOk x) (place.At W (x - 48)) _ (λ h. (omega arith, lt-ltb (x - 48) 4 (omega arith)))
-    (λ l. below x 56 (ElementOk x) _ _ (λ h. tt)
-    (λ l. below x 58 (ElementOk x) (place.At D (x - 56)) _ (λ h. (omega arith, lt-ltb (x - 56) 2 (omega arith))) (λ l. tt)))))))
+element-index : (x : ℕ) → ElementOk x (elementIndex x)
+element-index x =
+    below (ElementOk x) x 16 (at B x) _ (λ h e. (refl, lt-ltb _ _ h))
+    (λ l. below (ElementOk x) x 32 _ _ (λ h e. no e)
+    (λ l. below (ElementOk x) x 40 (at H (x - 32)) _ (λ h e. (omega arith, lt-ltb (x - 32) 8 (omega arith)))
+    (λ l. below (ElementOk x) x 48 _ _ (λ h e. no e)
+    (λ l. below (ElementOk x) x 52 (at W (x - 48)) _ (λ h e. (omega arith, lt-ltb (x - 48) 4 (omega arith)))
+    (λ l. below (ElementOk x) x 56 _ _ (λ h e. no e)
+    (λ l. below (ElementOk x) x 58 (at D (x - 56)) _ (λ h e. (omega arith, lt-ltb (x - 56) 2 (omega arith)))
+    (λ l e. no e)))))))
 
 module _ (w : ℕ) (h : w < 4294967296) where
-  df-code : codes.widthCode (reading.df w) ≡ bits w 22 21
-  df-code = code-width (bits w 22 21) (omega arith)
-
-  half : bits w 25 23 / 2 ≡ bits w 25 24
-  half = field (w / 2 ^ 23) 2 1 ∙ ap (λ (x : ℕ). x % 4) (shr-shr w 23 1)
+  abbrev k : ℕ
+  k = placeOf w
 
   -- a field of no bits
   none : 0 ≡ w / 1 % 1
   none = omega arith
 
-  -- major opcode 011110
-  module _ (major : 30 ≡ bits w 31 26) where
-    column : {n : ℕ} → n ≡ bits w 5 0 * 8 + bits w 25 23 → n % 8 ≡ bits w 25 23
-    column e = omega arith
+  df-code : widthCode (df w) ≡ bits w 22 21
+  df-code = code-width (bits w 22 21) (omega arith)
 
-    row : {n : ℕ} → n ≡ bits w 5 0 * 8 + bits w 25 23 → n / 8 ≡ bits w 5 0
-    row e = omega arith
+  instr-back : (i : Instr) → writeOf i ≡ Word w → Back w (read.Instr i)
+  unfolding Back
+  instr-back i e = e
 
-    bit-back : (o : BitOp) → codes.bitOpCode o ≡ bits w 5 0 * 8 + bits w 25 23 → (p : Place) → BitOk (bits w 22 16) p
-        → Back w (reading.bitAt o p (reading.vd w) (reading.vs w))
-    bit-back o n place.Reserved k = major
-    bit-back o n (place.At df m) k = writes _ w h (k .1) (fields major (column n) (k .0) refl refl (row n) none)
+  vacant-back : Back w (vacant w)
+  unfolding Back
+  vacant-back =
+      cond-elim (λ u. Back w (read.Not u)) (eqb (bits w 31 26) 30) _ _ (λ e. sym (eqb-true _ _ e))
+      (λ n m. eqb-false _ _ n (sym m))
 
-    two-back : (c : TwoCell) → two-stands (bits w 20 18) c ≡ true → 24 ≡ bits w 25 21 → 30 ≡ bits w 5 0 → Back w (reading.twoIn c w)
-    two-back two.Reserved t e m = major
-    two-back two.Fill t e m = writes _ w h refl (fields major e (eqb-true _ _ t) (code-width (bits w 17 16) (omega arith)) refl refl m)
-    two-back (two.Count o) t e m = writes _ w h refl (fields major e (eqb-true _ _ t) (code-width (bits w 17 16) (omega arith)) refl refl m)
+  -- an answer that is given where a test holds
+  given-back : (ok : Bool) (i : Instr) → (ok ≡ true → writeOf i ≡ Word w) → Back w (reading.given w ok i)
+  given-back ok i f = cond-elim (Back w) ok _ _ (λ e. instr-back i (f e)) (λ e. vacant-back)
 
-    vec-back : (c : VecCell) → vec-stands (bits w 25 21) c ≡ true → 30 ≡ bits w 5 0 → Back w (reading.vecIn c w)
-    vec-back vec.Reserved t m = major
-    vec-back vec.LeftOut t m = major
-    vec-back (vec.Logic o) t m = writes _ w h refl (fields major (eqb-true _ _ t) refl refl refl m none)
-    vec-back vec.Two t m = two-back (twoAt (bits w 20 18)) (two-at (bits w 20 18)) (eqb-true _ _ t) m
+  -- under the minor opcodes with three bits for the operation: 3R, I5 and BIT
+  module _ (f : Facts minor w × (k ≡ placeIn minor w)) where
+    column : k % 8 ≡ bits w 25 23
+    column = let p = f .1 in omega arith
 
-    module _ (minor : 25 ≡ bits w 5 0) where
-      control-back : (c : Control) → control-stands (bits w 25 22) c ≡ true → 62 ≡ bits w 21 16 → Back w (reading.controlIn c w)
-      control-back control.Reserved t e = major
-      control-back control.Ctcmsa t e = writes _ w h refl (fields major (eqb-true _ _ t) e refl refl minor none)
-      control-back control.Cfcmsa t e = writes _ w h refl (fields major (eqb-true _ _ t) e refl refl minor none)
-      control-back control.Move t e = writes _ w h refl (fields major (eqb-true _ _ t) e refl refl minor none)
+    row : k / 8 ≡ bits w 5 0
+    row = let p = f .1 in omega arith
 
-      element-back : (c : ElementCell) → element-stands (bits w 25 22) c ≡ true → (df : Width) (n : ℕ) → ElementOk (bits w 21 16) (place.At df n)
-          → Back w (reading.elementIn c df n w)
-      element-back element.Reserved t df n k = major
-      element-back (element.Element o) t df n k = writes _ w h (k .1) (fields major (eqb-true _ _ t) (k .0) refl refl minor none)
-      element-back (element.Copy o) t df n k =
-          pick-elim (Back w) (copyForm o df) _ _
-          (λ ok. writes _ w h (rw (ok, k .1)) (fields major (eqb-true _ _ t) (k .0) refl refl minor none)) (λ e. major)
-      element-back element.Insert t df n k = writes _ w h (k .1) (fields major (eqb-true _ _ t) (k .0) refl refl minor none)
+    five-back : (ok : Bool) (i : Instr)
+        → (ok ≡ true
+        → layoutOf i ≡ writing.fiveLayout true (op k) (df w) (bits w 20 16) (bits w 15 11) (bits w 10 6))
+        → Back w (reading.given w ok i)
+    five-back ok i e =
+        given-back ok i
+        (λ t. writes i w h (rw (e t)) (rw (e t) (fields (f .0 .0) column df-code refl refl refl row)))
 
-      at-place : (p : Place) → ElementOk (bits w 21 16) p → Back w (reading.elementAtPlace p w)
-      at-place place.Reserved k = major
-      at-place (place.At df n) k = element-back (elementAt (bits w 25 22)) (element-at (bits w 25 22)) df n k
+  -- with a format and an index, where both are
+  module _ (x : Index) (has : Bool) (t : both (x .ok) has ≡ true) where
+    ok-part : x .ok ≡ true
+    ok-part = both-left (x .ok) has t
 
-      elm-back : Back w (reading.readElement w)
-      elm-back =
-          pick-elim (Back w) (eqb (bits w 21 16) 62) _ _
-          (λ e. control-back (controlAt (bits w 25 22)) (control-at (bits w 25 22)) (sym (eqb-true _ _ e)))
-          (λ e. at-place (reading.elementPlace (bits w 21 16)) (element-place (bits w 21 16)))
+    has-part : has ≡ true
+    has-part = both-right (x .ok) has t
 
-    cell-back : (c : Cell) → stands (bits w 5 0) (bits w 25 23) c ≡ true → Back w (reading.readCell c w)
-    cell-back cell.Reserved t = major
-    cell-back cell.LeftOut t = major
-    cell-back cell.LeftEven t = pick-elim (Back w) (eqb (bits w 22 22) 0) _ _ (λ e. major) (λ e. major)
-    cell-back cell.LeftOdd t = pick-elim (Back w) (eqb (bits w 22 22) 1) _ _ (λ e. major) (λ e. major)
-    cell-back (cell.Three o) t =
-        pick-elim (Back w) (hasForm o (reading.df w)) _ _
-        (λ ok. writes _ w h ok (fields major (column (eqb-true _ _ t)) df-code refl refl refl (row (eqb-true _ _ t)))) (λ e. major)
-    cell-back (cell.Indexed o) t = writes _ w h refl (fields major (column (eqb-true _ _ t)) df-code refl refl refl (row (eqb-true _ _ t)))
-    cell-back (cell.Imm5 o) t = writes _ w h refl (fields major (column (eqb-true _ _ t)) df-code refl refl refl (row (eqb-true _ _ t)))
-    cell-back cell.Ldi t = writes _ w h refl (fields major (column (eqb-true 62 _ t)) df-code refl refl (row (eqb-true 62 _ t)) none)
-    cell-back (cell.Bit o) t = bit-back o (eqb-true _ _ t) (reading.bitPlace (bits w 22 16)) (bit-place (bits w 22 16))
-    cell-back (cell.Imm8 o) t =
-        let e : codes.logicCode o ≡ bits w 5 0 * 4 + bits w 25 24 = eqb-true _ _ t ∙ ap (λ (x : ℕ). bits w 5 0 * 4 + x) half in
-        writes _ w h refl (fields major (omega arith) refl refl refl (omega arith) none)
-    cell-back (cell.Shf df) t =
-        let in-column : Bool = eqb (codes.widthCode df) (bits w 25 23 / 2) in
-        let in-row : Bool = eqb (bits w 5 0) 2 in
-        let places = both-right (notD df) (both in-column in-row) t in
-        writes _ w h (both-left (notD df) (both in-column in-row) t)
-        (fields major (eqb-true _ _ (both-left in-column in-row places) ∙ half) refl refl refl (sym (eqb-true _ _ (both-right in-column in-row places))) none)
-    cell-back cell.Elm t = elm-back (sym (eqb-true _ _ t))
-    cell-back cell.Vec t = vec-back (vecAt (bits w 25 21)) (vec-at (bits w 25 21)) (sym (eqb-true _ _ t))
-    cell-back (cell.Memory o) t =
-        let e : codes.memoryCode o ≡ bits w 5 0 / 4 = eqb-true _ _ t in
-        writes _ w h refl (fields major refl refl refl (omega arith) (code-width (bits w 1 0) (omega arith)) none)
+  abbrev dfn : Index
+  dfn = elementIndex (bits w 21 16)
 
-    msa-back : Back w (reading.readCell (reading.cellOf w) w)
-    msa-back = cell-back (reading.cellOf w) (cell-stands (bits w 5 0) (bits w 25 23))
+  abbrev has : Bool
+  has = hasForm k (dfn .df)
 
-  branch-back : (c : BranchCell) → branch-stands (bits w 25 21) c ≡ true → 17 ≡ bits w 31 26 → Back w (reading.branchIn c w)
-  branch-back branch.Other t major = λ e. omega arith
-  branch-back (branch.Whole o) t major =
-      let e : (2 + codes.zeroCode o) * 4 + 3 ≡ bits w 25 21 = eqb-true _ _ t in
-      writes _ w h refl (fields major (omega arith) (omega arith) refl refl none none)
-  branch-back (branch.Each o) t major =
-      let e : 6 + codes.zeroCode o ≡ bits w 25 21 / 4 = eqb-true _ _ t in
-      writes _ w h refl (fields major (omega arith) df-code refl refl none none)
+  module _ (t : both (dfn .ok) has ≡ true) where
+    index-code : writing.elementCode (dfn .df) (dfn .n) ≡ bits w 21 16
+    index-code = element-index (bits w 21 16) (ok-part dfn has t) .0
 
-  scaled-back : (o : Scaled) → codes.scaledCode o ≡ bits w 5 0 → 0 ≡ bits w 31 26 → Back w (reading.scaledIn o w)
-  scaled-back o e major =
-      pick-elim (Back w) (eqb (bits w 10 8) 0) _ _
-      (λ z. writes _ w h refl (fields major refl refl refl (sym (eqb-true _ _ z)) refl e)) (λ z m. omega arith)
+    index-small : ltb (dfn .n) (format.elements (dfn .df)) ≡ true
+    index-small = element-index (bits w 21 16) (ok-part dfn has t) .1
 
-  special-back : 0 ≡ bits w 31 26 → Back w (reading.readSpecial w)
-  special-back major =
-      pick-elim (Back w) (eqb (bits w 5 0) 5) _ _ (λ e. scaled-back Lsa (sym (eqb-true _ _ e)) major)
-      (λ l. pick-elim (Back w) (eqb (bits w 5 0) 21) _ _ (λ e. scaled-back Dlsa (sym (eqb-true _ _ e)) major) (λ z m. omega arith))
+  -- with 111110
+  control-back : (i : Instr) (n : ℕ) → k ≡ place.elm62 n
+      → layoutOf i ≡ writing.elmLayout true n 62 (bits w 15 11) (bits w 10 6)
+      → inside elm62 (place.elm62 n) ≡ true → n < 16 → writeOf i ≡ Word w
+  control-back i n q e t small =
+      let f = found w elm62 (rw q t) in
+      let p = f .1 in
+      writes i w h (rw e) (rw e (fields (f .0 .0) (omega arith) (f .0 .2) refl refl (f .0 .1) none))
+
+  left-back : (b : Bool) → cond b (inside vec k) (inside float k) ≡ true → Back w (read.Not LeftOut)
+  unfolding Back
+  left-back true t = found w vec t .0 .0
+  left-back false t = found w float t .0 .0
+
+  class-back : (c : Class) → classAt k ≡ c → Back w (readClass c (formatsAt k) k w)
+  class-back class.Reserved e = vacant-back
+  class-back class.Three e =
+      five-back (found w minor (stood class.Three k e)) (hasForm k (df w))
+      (instr.Three (op k) (df w) (vd w) (vs w) (vt w))
+      (λ ok. rw (e, ok))
+  class-back class.Indexed e =
+      five-back (found w minor (stood class.Indexed k e)) (hasForm k (df w))
+      (instr.Indexed (op k) (df w) (vd w) (vs w) (gt w))
+      (λ ok. rw (e, ok))
+  class-back class.Imm5U e =
+      five-back (found w minor (stood class.Imm5U k e)) (hasForm k (df w))
+      (instr.Imm5U (op k) (df w) (vd w) (vs w) (bits w 20 16))
+      (λ ok. rw (e, ok))
+  class-back class.Imm5S e =
+      five-back (found w minor (stood class.Imm5S k e)) (hasForm k (df w))
+      (instr.Imm5S (op k) (df w) (vd w) (vs w) (bits w 20 16))
+      (λ ok. rw (e, ok))
+  class-back class.Ldi e =
+      let p = sole class.Ldi k place.ldi e refl in
+      let f = found w minor (rw p) in
+      given-back (hasForm k (df w)) (instr.Ldi (df w) (vd w) (bits w 20 11)) (λ ok. writes _ w h (rw p at ok)
+      (fields (f .0 .0) (rw p at (column f)) df-code refl refl (rw p at (row f)) none))
+  class-back class.Bit e =
+      let x = bitIndex (bits w 22 16) in
+      let f = found w minor (stood class.Bit k e) in
+      given-back (both (x .ok) (hasForm k (x .df))) (instr.Bit (op k) (x .df) (vd w) (vs w) (x .n))
+      (λ t. let i = bit-index (bits w 22 16) (ok-part x (hasForm k (x .df)) t) in
+      writes _ w h (rw (
+        e,
+        has-part x (hasForm k (x .df)) t,
+        i .1,
+      )) (fields (f .0 .0) (column f) (i .0) refl refl (row f) none))
+  class-back class.Imm8 e =
+      let f = found w i8 (stood class.Imm8 k e) in
+      let p = f .1 in
+      instr-back _ (writes _ w h (rw e) (fields (f .0 .0) (omega arith) refl refl refl (omega arith) none))
+  class-back class.Shf e =
+      let p = sole class.Shf k place.shf e refl in
+      let f = found w shf (rw p) in
+      given-back (hasForm k (widthAt (bits w 25 24))) (instr.Shf (widthAt (bits w 25 24)) (vd w) (vs w)
+      (bits w 23 16)) (λ ok. writes _ w h (rw p at ok) (fields (f .0 .0) (code-width (bits w 25 24)
+      (omega arith)) refl refl refl (f .0 .1) none))
+  class-back class.Element e =
+      let f = found w elm (stood class.Element k e) in
+      let p = f .1 in
+      given-back (both (dfn .ok) has) (instr.Element (op k) (dfn .df) (vd w) (vs w) (dfn .n))
+      (λ t. writes _ w h (rw (
+        e,
+        has-part dfn has t,
+        index-small t,
+      )) (fields (f .0 .0) (omega arith) (index-code t) refl refl (f .0 .1) none))
+  class-back class.Insve e =
+      let q = sole class.Insve k place.insve e refl in
+      let f = found w elm (rw q) in
+      let p = f .1 in
+      given-back (both (dfn .ok) has) (instr.Insve (dfn .df) (vd w) (dfn .n) (vs w))
+      (λ t. writes _ w h (rw (
+        rw q at (has-part dfn has t),
+        index-small t,
+      )) (fields (f .0 .0) (omega arith) (index-code t) refl refl (f .0 .1) none))
+  class-back class.Copy e =
+      let f = found w elm (stood class.Copy k e) in
+      let p = f .1 in
+      given-back (both (dfn .ok) has) (instr.Copy (op k) (dfn .df) (gd w) (vs w) (dfn .n))
+      (λ t. writes _ w h (rw (
+        e,
+        has-part dfn has t,
+        index-small t,
+      )) (fields (f .0 .0) (omega arith) (index-code t) refl refl (f .0 .1) none))
+  class-back class.Insert e =
+      let q = sole class.Insert k place.insert e refl in
+      let f = found w elm (rw q) in
+      let p = f .1 in
+      given-back (both (dfn .ok) has) (instr.Insert (dfn .df) (vd w) (dfn .n) (gs w))
+      (λ t. writes _ w h (rw (
+        rw q at (has-part dfn has t),
+        index-small t,
+      )) (fields (f .0 .0) (omega arith) (index-code t) refl refl (f .0 .1) none))
+  class-back class.Move e = instr-back _ (control-back _ _ (sole class.Move k place.move e refl) refl refl
+      (omega arith))
+  class-back class.Cfcmsa e = instr-back _ (control-back _ _ (sole class.Cfcmsa k place.cfcmsa e refl) refl refl
+      (omega arith))
+  class-back class.Ctcmsa e = instr-back _ (control-back _ _ (sole class.Ctcmsa k place.ctcmsa e refl) refl refl
+      (omega arith))
+  class-back class.Vec e =
+      let f = found w vec (both-left (inside vec k) _ (stood class.Vec k e)) in
+      let p = f .1 in
+      instr-back _ (writes _ w h (rw e) (fields (f .0 .0) (omega arith) refl refl refl (f .0 .1) none))
+  class-back class.Fill e =
+      let q = sole class.Fill k place.fill e refl in
+      let f = found w two (rw q) in
+      let p = f .1 in
+      given-back (hasForm k (widthAt (bits w 17 16))) (instr.Fill (widthAt (bits w 17 16)) (vd w) (gs w))
+      (λ ok. writes _ w h (rw q at ok) (fields (f .0 .0) (f .0 .2) (omega arith) (code-width (bits w 17 16)
+      (omega arith)) refl refl (f .0 .1)))
+  class-back class.Count e =
+      let f = found w two (stood class.Count k e) in
+      let p = f .1 in
+      given-back (hasForm k (widthAt (bits w 17 16))) (instr.Count (op k) (widthAt (bits w 17 16)) (vd w) (vs w))
+      (λ ok. writes _ w h (rw (e, ok)) (fields (f .0 .0) (f .0 .2) (omega arith) (code-width (bits w 17 16)
+      (omega arith)) refl refl (f .0 .1)))
+  class-back class.Memory e =
+      let f = found w mi10 (both-left (inside mi10 k) _ (stood class.Memory k e)) in
+      let p = f .1 in
+      given-back (hasForm k (widthAt (bits w 1 0))) (instr.Memory (op k) (widthAt (bits w 1 0)) (vd w)
+      (bits w 25 16) (gs w))
+      (λ ok. writes _ w h (rw (e, ok)) (fields (f .0 .0) refl refl refl (omega arith) (code-width (bits w 1 0)
+      (omega arith)) none))
+  class-back class.Branch e =
+      let f = found w branch (stood class.Branch k e) in
+      let p = f .1 in
+      given-back (hasForm k (df w)) (instr.Branch (op k) (df w) (vt w) (bits w 15 0)) (λ ok. writes _ w h (rw (
+        e,
+        ok,
+      )) (fields (f .0) (omega arith) df-code refl refl none none))
+  class-back class.BranchV e =
+      let f = found w branch (stood class.BranchV k e) in
+      let p = f .1 in
+      given-back (eqb (bits w 22 21) 3) (instr.BranchV (op k) (vt w) (bits w 15 0)) (λ ok. writes _ w h (rw e)
+      (fields (f .0) (omega arith) (sym (eqb-true _ _ ok)) refl refl none none))
+  class-back class.Scaled e =
+      let f = found w special (stood class.Scaled k e) in
+      let p = f .1 in
+      given-back (eqb (bits w 10 8) 0) (instr.Scaled (op k) (gs w) (ga w) (gt w) (bits w 7 6)) (λ ok. writes _ w h
+      (rw e) (fields (f .0) refl refl refl (sym (eqb-true _ _ ok)) refl (omega arith)))
+  class-back class.LeftOut e = left-back (ltb k 384) (stood class.LeftOut k e)
 
   pub back : Back w (readOf w)
   unfolding readOf
-  back =
-      pick-elim (Back w) (eqb (bits w 31 26) 30) _ _ (λ e. msa-back (sym (eqb-true _ _ e)))
-      (λ no. pick-elim (Back w) (eqb (bits w 31 26) 17) _ _
-      (λ e. branch-back (branchAt (bits w 25 21)) (branch-at (bits w 25 21)) (sym (eqb-true _ _ e)))
-      (λ l. pick-elim (Back w) (eqb (bits w 31 26) 0) _ _ (λ e. special-back (sym (eqb-true _ _ e))) (λ z m. eqb-false _ _ no (sym m))))
+  back = class-back (classAt k) refl
 
 -- each word that reads as an instruction is what the instruction is written as
 pub read-write : ReadWrite
+unfolding Back
 read-write w i h e = subst (Back w) e (back w h)

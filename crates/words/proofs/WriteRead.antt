@@ -1,34 +1,35 @@
 -- The word of an instruction reads as that instruction. Assumes nothing.
-use mathlib.Core.Path.{_≡_, refl, ap}
+use mathlib.Core.Path.{_≡_, refl, sym, ap, _∙_}
 use mathlib.Core.Bool.{Bool, true, false}
-use Prim.Native.Nat.{ℕ, _+_, _/_, _<_}
+use Prim.Native.Nat.{ℕ, _+_, _*_, _/_, _%_, _<_}
 use native.Mathlib.Omega.{arith}
 use borrow.Author.Tests.{ltb-true, lt-ltb, le-ltb, ne-eqb}
 use lib.Dec.{eqb, ltb}
+use Rattle.isa.specs.declared.Op.{Op}
 use Rattle.isa.specs.declared.Width.{Width}
 use Rattle.isa.specs.declared.Width.the-variants.{B, H, W, D}
-use Rattle.isa.specs.declared.Scaled.{Scaled}
-use Rattle.isa.specs.declared.Scaled.the-variants.{Lsa, Dlsa}
 use Rattle.isa.specs.declared.Instr.{Instr}
 use Rattle.isa.specs.declared.Instr.the-variants as instr
 use Rattle.isa.specs.declared.Read.the-variants as read
 use Rattle.isa.specs.declared.Written.{Written}
 use Rattle.isa.specs.declared.Written.the-variants.{Refused, Word}
-use Rattle.cells.specs.declared.Cell.the-variants as cell
-use Rattle.reading.specs.declared.places.Place.the-variants as place
 use Rattle.isa.specs.Widths as format
-use Rattle.codes.specs.Codes as codes
-use Rattle.codes.specs.Forms.{copyForm}
-use Rattle.fields.specs.Fields.{pick, bits, wordOf, fits}
-use Rattle.cells.specs.Tables.{rowAt, cellIn, elementAt, twoAt, branchAt}
-use Rattle.reading.specs.Reading as reading
-use Rattle.reading.specs.Reading.{readOf}
+use Rattle.isa.specs.Widths.{widthAt, widthCode}
+use Rattle.ops.specs.Classes.{Class}
+use Rattle.ops.specs.Classes as class
+use Rattle.ops.specs.Packed.{classCode}
+use Rattle.ops.specs.Places as place
+use Rattle.ops.specs.Table.{rowAt, classAt, formatsAt, hasForm}
+use Rattle.fields.specs.Fields.{pick, both, bits, wordOf, fits}
+use Rattle.reading.specs.Index.{at, bitIndex, elementIndex}
+use Rattle.reading.specs.Reading.{minor, elm, placeOf, readClass, readOf}
 use Rattle.writing.specs.Writing as writing
 use Rattle.writing.specs.Writing.{writeOf, layoutOf}
 use Rattle.words.specs.Theorems.{WriteRead, WriteBelow}
-use Rattle.fields.proofs.Fields.{both-left, both-right, cut, cut-word, word-lt, item, split}
+use Rattle.fields.proofs.Fields.{both-left, both-right, cut, cut-word, word-lt, item}
 use Rattle.writing.proofs.Shapes.{shaped}
-use Rattle.words.proofs.Tables.{three-cell, imm5-cell, bit-cell, indexed-cell, imm8-cell, shf-cell, memory-cell, vec-cell, logic-cell, count-cell, element-row, element-cell, copy-row, copy-cell, each-cell, whole-cell, width-code}
+use Rattle.words.proofs.Blocks.{inside, standing, stood, class-is, to-minor, to-i8, to-shf, to-elm, to-elm62}
+use Rattle.words.proofs.Blocks.{to-vec, to-two, to-mi10, to-branch, to-special}
 
 -- what is known of an instruction that was written
 pub record Fit (i : Instr) (w : ℕ) : Type 0 where
@@ -58,27 +59,41 @@ fit i w e =
       fitting = p .0;
     }
 
--- ---- a place from its format and index
+-- ---- a format and an index from their field
 
-bit-place : (df : Width) (m : ℕ) → ltb m (format.bits df) ≡ true → reading.bitPlace (writing.bitCode df m) ≡ place.At df m
-bit-place D m e = rw e
-bit-place W m e =
+bit-index : (df : Width) (m : ℕ) → ltb m (format.bits df) ≡ true → bitIndex (writing.bitCode df m) ≡ at df m
+bit-index D m e = rw e
+bit-index W m e =
     let h = ltb-true m 32 e in
-    rw (le-ltb (64 + m) 64 (omega arith), lt-ltb (64 + m) 96 (omega arith)) (ap (place.At W) (omega arith))
-bit-place H m e =
+    rw (le-ltb (64 + m) 64 (omega arith), lt-ltb (64 + m) 96 (omega arith)) (ap (at W) (omega arith))
+bit-index H m e =
     let h = ltb-true m 16 e in
-    rw (le-ltb (96 + m) 64 (omega arith), le-ltb (96 + m) 96 (omega arith), lt-ltb (96 + m) 112 (omega arith)) (ap (place.At H) (omega arith))
-bit-place B m e =
+    rw (
+      le-ltb (96 + m) 64 (omega arith),
+      le-ltb (96 + m) 96 (omega arith),
+      lt-ltb (96 + m) 112 (omega arith),
+    ) (ap (at H) (omega arith))
+bit-index B m e =
     let h = ltb-true m 8 e in
-    rw (le-ltb (112 + m) 64 (omega arith), le-ltb (112 + m) 96 (omega arith), le-ltb (112 + m) 112 (omega arith), lt-ltb (112 + m) 120 (omega arith))
-    (ap (place.At B) (omega arith))
+    rw (
+      le-ltb (112 + m) 64 (omega arith),
+      le-ltb (112 + m) 96 (omega arith),
+      le-ltb (112 + m) 112 (omega arith),
+      lt-ltb (112 + m) 120 (omega arith),
+    )
+    (ap (at B) (omega arith))
 
-element-place : (df : Width) (n : ℕ) → ltb n (format.elements df) ≡ true → reading.elementPlace (writing.elementPlaceCode df n) ≡ place.At df n
-element-place B n e = rw e
-element-place H n e =
+element-index : (df : Width) (n : ℕ) → ltb n (format.elements df) ≡ true
+    → elementIndex (writing.elementCode df n) ≡ at df n
+element-index B n e = rw e
+element-index H n e =
     let h = ltb-true n 8 e in
-    rw (le-ltb (32 + n) 16 (omega arith), le-ltb (32 + n) 32 (omega arith), lt-ltb (32 + n) 40 (omega arith)) (ap (place.At H) (omega arith))
-element-place W n e =
+    rw (
+      le-ltb (32 + n) 16 (omega arith),
+      le-ltb (32 + n) 32 (omega arith),
+      lt-ltb (32 + n) 40 (omega arith),
+    ) (ap (at H) (omega arith))
+element-index W n e =
     let h = ltb-true n 4 e in
     rw (
       le-ltb (48 + n) 16 (omega arith),
@@ -86,8 +101,8 @@ element-place W n e =
       le-ltb (48 + n) 40 (omega arith),
       le-ltb (48 + n) 48 (omega arith),
       lt-ltb (48 + n) 52 (omega arith),
-    ) (ap (place.At W) (omega arith))
-element-place D n e =
+    ) (ap (at W) (omega arith))
+element-index D n e =
     let h = ltb-true n 2 e in
     rw (
       le-ltb (56 + n) 16 (omega arith),
@@ -97,127 +112,189 @@ element-place D n e =
       le-ltb (56 + n) 52 (omega arith),
       le-ltb (56 + n) 56 (omega arith),
       lt-ltb (56 + n) 58 (omega arith),
-    ) (ap (place.At D) (omega arith))
+    ) (ap (at D) (omega arith))
 
-not-control : (df : Width) (n : ℕ) → ltb n (format.elements df) ≡ true → eqb (writing.elementPlaceCode df n) 62 ≡ false
+not-control : (df : Width) (n : ℕ) → ltb n (format.elements df) ≡ true → eqb (writing.elementCode df n) 62 ≡ false
 not-control B n e = let h = ltb-true n 16 e in ne-eqb n 62 (omega arith)
 not-control H n e = let h = ltb-true n 8 e in ne-eqb (32 + n) 62 (omega arith)
 not-control W n e = let h = ltb-true n 4 e in ne-eqb (48 + n) 62 (omega arith)
 not-control D n e = let h = ltb-true n 2 e in ne-eqb (56 + n) 62 (omega arith)
 
--- ---- the answer by the major opcode
+-- ---- the class at the place that the fields hold
 
-msa : (w : ℕ) → bits w 31 26 ≡ 30 → readOf w ≡ reading.readCell (reading.cellOf w) w
+width-code : (df : Width) → widthAt (widthCode df) ≡ df
+width-code = elim [ B ↦ refl | H ↦ refl | W ↦ refl | D ↦ refl ]
+
+pub record Alone : Type 0 where
+  pub ldi : classAt place.ldi ≡ class.Ldi
+  pub shf : classAt place.shf ≡ class.Shf
+  pub insert : classAt place.insert ≡ class.Insert
+  pub insve : classAt place.insve ≡ class.Insve
+  pub ctcmsa : classAt place.ctcmsa ≡ class.Ctcmsa
+  pub cfcmsa : classAt place.cfcmsa ≡ class.Cfcmsa
+  pub move : classAt place.move ≡ class.Move
+  pub fill : classAt place.fill ≡ class.Fill
+
+pub alone : Alone
+unfolding rowAt
+alone = record {
+  ldi = refl;
+  shf = refl;
+  insert = refl;
+  insve = refl;
+  ctcmsa = refl;
+  cfcmsa = refl;
+  move =
+      refl;
+  fill = refl;
+}
+
+-- an operation of its class, and what else was asked
+pub of : (c : Class) (k : ℕ) (x : Bool) → both (eqb (classCode (classAt k)) (classCode c)) x ≡ true
+    → (classAt k ≡ c) × (x ≡ true)
+of c k x t = (
+  class-is c k (both-left (eqb (classCode (classAt k)) (classCode c)) x t),
+  both-right (eqb (classCode (classAt k)) (classCode c)) x t,
+)
+
+-- the same with an index
+pub of-index : (c : Class) (k : ℕ) (x y : Bool) → both (both (eqb (classCode (classAt k)) (classCode c)) x) y ≡ true
+    → (classAt k ≡ c) × (x ≡ true) × (y ≡ true)
+of-index c k x y t =
+    let p = of c k x (both-left (both (eqb (classCode (classAt k)) (classCode c)) x) y t) in
+    (p .0, p .1, both-right (both (eqb (classCode (classAt k)) (classCode c)) x) y t)
+
+by : (w k : ℕ) (c : Class) → placeOf w ≡ k → classAt k ≡ c → readOf w ≡ readClass c (formatsAt k) k w
 unfolding readOf
-msa w e = rw e
+by w k c p e = rw (p, e)
 
-cop1 : (w : ℕ) → bits w 31 26 ≡ 17 → readOf w ≡ reading.branchIn (branchAt (bits w 25 21)) w
-unfolding readOf
-cop1 w e = rw e
+-- 3R, I5 and BIT
+by-minor : (w k : ℕ) (c : Class) → classAt k ≡ c → standing c k ≡ inside minor k → bits w 31 26 ≡ 30
+    → bits w 25 23 ≡ k % 8
+    → bits w 5 0 ≡ k / 8 → readOf w ≡ readClass c (formatsAt k) k w
+by-minor w k c e s a b m = by w k c (to-minor w k a b m (sym s ∙ stood c k e)) e
 
-special : (w : ℕ) → bits w 31 26 ≡ 0 → readOf w ≡ reading.readSpecial w
-unfolding readOf
-special w e = rw e
-
--- ELM: bits 25..23 are half of bits 25..22
-elm : (w op : ℕ) → bits w 31 26 ≡ 30 → bits w 25 22 ≡ op → bits w 5 0 ≡ 25 → cellIn (rowAt 25) (op / 2) ≡ cell.Elm → readOf w ≡ reading.readElement w
-elm w op e₀ e₁ e₂ c =
-    let e : bits w 25 23 ≡ op / 2 = omega (arith, split w 22 3 1) in
-    rw (msa w e₀, e₂, e, c)
-
--- ELM with a format and an index
-indexed : (w op n : ℕ) (df : Width) → ltb n (format.elements df) ≡ true → bits w 25 22 ≡ op → bits w 21 16 ≡ writing.elementPlaceCode df n
-    → reading.readElement w ≡ reading.elementIn (elementAt op) df n w
-indexed w op n df ok e₁ e₂ = rw (e₂, not-control df n ok, element-place df n ok, e₁)
-
-vec-two : (w : ℕ) → bits w 31 26 ≡ 30 → bits w 25 21 ≡ 24 → bits w 5 0 ≡ 30 → readOf w ≡ reading.twoIn (twoAt (bits w 20 18)) w
-vec-two w e₀ e₁ e₂ =
-    let e : bits w 25 23 ≡ 6 = omega (arith, split w 21 3 2) in
-    rw (msa w e₀, e₂, e, e₁)
-
-scaled : (o : Scaled) (w : ℕ) → bits w 5 0 ≡ codes.scaledCode o → reading.readSpecial w ≡ reading.scaledIn o w
-scaled Lsa w e = rw e
-scaled Dlsa w e = rw e
+-- ELM
+by-elm : (w k : ℕ) (c : Class) (df : Width) (n : ℕ) → classAt k ≡ c → inside elm k ≡ true
+    → ltb n (format.elements df) ≡ true
+    → bits w 31 26 ≡ 30 → bits w 25 22 ≡ k % 16 → bits w 21 16 ≡ writing.elementCode df n → bits w 5 0 ≡ 25
+    → readOf w ≡ readClass c (formatsAt k) k w
+by-elm w k c df n e s ok a b x m = by w k c (to-elm w k a b m (rw x (not-control df n ok)) s) e
 
 -- ---- the answer by the instruction
 
 reads : (i : Instr) (w : ℕ) → Fit i w → readOf w ≡ read.Instr i
-reads (instr.Three o df wd ws wt) w f =
+reads (instr.Three k df wd ws wt) w f =
     let h = f .held in
-    rw (msa w (item h 0), item h 1, item h 6, three-cell o, item h 2, width-code df, f .ok, item h 3, item h 4, item h 5)
-reads (instr.Indexed o df wd ws rt) w f =
+    let o = of class.Three (k .0) (hasForm (k .0) df) (f .ok) in
+    by-minor w (k .0) class.Three (o .0) refl (item h 0) (item h 1) (item h 6)
+    ∙ rw (item h 2, width-code df, o .1, item h 3, item h 4, item h 5)
+reads (instr.Indexed k df wd ws rt) w f =
     let h = f .held in
-    rw (msa w (item h 0), item h 1, item h 6, indexed-cell o, item h 2, width-code df, item h 3, item h 4, item h 5)
-reads (instr.Imm5 o df wd ws imm) w f =
+    let o = of class.Indexed (k .0) (hasForm (k .0) df) (f .ok) in
+    by-minor w (k .0) class.Indexed (o .0) refl (item h 0) (item h 1) (item h 6)
+    ∙ rw (item h 2, width-code df, o .1, item h 3, item h 4, item h 5)
+reads (instr.Imm5U k df wd ws imm) w f =
     let h = f .held in
-    rw (msa w (item h 0), item h 1, item h 6, imm5-cell o, item h 2, width-code df, item h 3, item h 4, item h 5)
+    let o = of class.Imm5U (k .0) (hasForm (k .0) df) (f .ok) in
+    by-minor w (k .0) class.Imm5U (o .0) refl (item h 0) (item h 1) (item h 6)
+    ∙ rw (item h 2, width-code df, o .1, item h 3, item h 4, item h 5)
+reads (instr.Imm5S k df wd ws imm) w f =
+    let h = f .held in
+    let o = of class.Imm5S (k .0) (hasForm (k .0) df) (f .ok) in
+    by-minor w (k .0) class.Imm5S (o .0) refl (item h 0) (item h 1) (item h 6)
+    ∙ rw (item h 2, width-code df, o .1, item h 3, item h 4, item h 5)
 reads (instr.Ldi df wd imm) w f =
     let h = f .held in
-    rw (msa w (item h 0), item h 1, item h 5, item h 2, width-code df, item h 3, item h 4)
-reads (instr.Bit o df wd ws m) w f =
+    by-minor w place.ldi class.Ldi (alone .ldi) refl (item h 0) (item h 1) (item h 5)
+    ∙ rw (item h 2, width-code df, f .ok, item h 3, item h 4)
+reads (instr.Bit k df wd ws m) w f =
     let h = f .held in
-    rw (msa w (item h 0), item h 1, item h 5, bit-cell o, item h 2, bit-place df m (f .ok), item h 3, item h 4)
-reads (instr.Imm8 o wd ws imm) w f =
+    let o = of-index class.Bit (k .0) (hasForm (k .0) df) (ltb m (format.bits df)) (f .ok) in
+    by-minor w (k .0) class.Bit (o .0) refl (item h 0) (item h 1) (item h 5)
+    ∙ rw (item h 2, bit-index df m (o .2), o .1, item h 3, item h 4)
+reads (instr.Imm8 k wd ws imm) w f =
     let h = f .held in
-    rw (msa w (item h 0), split w 23 2 1, item h 1, item h 5, imm8-cell o (bits w 23 23) (omega arith), item h 2, item h 3, item h 4)
+    let e = class-is class.Imm8 (k .0) (f .ok) in
+    by w (k .0) class.Imm8 (to-i8 w (k .0) (item h 0) (item h 1) (item h 5) (stood class.Imm8 (k .0) e)) e
+    ∙ rw (item h 2, item h 3, item h 4)
 reads (instr.Shf df wd ws imm) w f =
     let h = f .held in
-    rw (msa w (item h 0), split w 23 2 1, item h 1, item h 5, shf-cell df (bits w 23 23) (omega arith) (f .ok), item h 2, item h 3, item h 4)
-reads (instr.Element o df wd ws n) w f =
+    by w place.shf class.Shf (to-shf w (item h 0) (item h 5)) (alone .shf)
+    ∙ rw (item h 1, width-code df, f .ok, item h 2, item h 3, item h 4)
+reads (instr.Element k df wd ws n) w f =
     let h = f .held in
-    rw (
-      elm w (codes.elementCode o) (item h 0) (item h 1) (item h 5) (element-row o),
-      indexed w (codes.elementCode o) n df (f .ok) (item h 1) (item h 2),
-      element-cell o,
-      item h 3,
-      item h 4,
-    )
-reads (instr.Copy o df rd ws n) w f =
+    let o = of-index class.Element (k .0) (hasForm (k .0) df) (ltb n (format.elements df)) (f .ok) in
+    by-elm w (k .0) class.Element df n (o .0) (stood class.Element (k .0) (o .0)) (o .2) (item h 0) (item h 1)
+    (item h 2) (item h 5)
+    ∙ rw (item h 2, element-index df n (o .2), o .1, item h 3, item h 4)
+reads (instr.Copy k df rd ws n) w f =
     let h = f .held in
-    let form = both-left (copyForm o df) (ltb n (format.elements df)) (f .ok) in
-    let ok = both-right (copyForm o df) (ltb n (format.elements df)) (f .ok) in
-    rw (
-      elm w (codes.copiedCode o) (item h 0) (item h 1) (item h 5) (copy-row o),
-      indexed w (codes.copiedCode o) n df ok (item h 1) (item h 2),
-      copy-cell o,
-      form,
-      item h 3,
-      item h 4,
-    )
+    let o = of-index class.Copy (k .0) (hasForm (k .0) df) (ltb n (format.elements df)) (f .ok) in
+    by-elm w (k .0) class.Copy df n (o .0) (stood class.Copy (k .0) (o .0)) (o .2) (item h 0) (item h 1) (item h 2)
+    (item h 5)
+    ∙ rw (item h 2, element-index df n (o .2), o .1, item h 3, item h 4)
+reads (instr.Insve df wd n ws) w f =
+    let h = f .held in
+    let has = both-left (hasForm place.insve df) (ltb n (format.elements df)) (f .ok) in
+    let ok = both-right (hasForm place.insve df) (ltb n (format.elements df)) (f .ok) in
+    by-elm w place.insve class.Insve df n (alone .insve) refl ok (item h 0) (item h 1) (item h 2) (item h 5)
+    ∙ rw (item h 2, element-index df n ok, has, item h 3, item h 4)
 reads (instr.Insert df wd n rs) w f =
     let h = f .held in
-    rw (elm w 4 (item h 0) (item h 1) (item h 5) refl, indexed w 4 n df (f .ok) (item h 1) (item h 2), item h 3, item h 4)
+    let has = both-left (hasForm place.insert df) (ltb n (format.elements df)) (f .ok) in
+    let ok = both-right (hasForm place.insert df) (ltb n (format.elements df)) (f .ok) in
+    by-elm w place.insert class.Insert df n (alone .insert) refl ok (item h 0) (item h 1) (item h 2) (item h 5)
+    ∙ rw (item h 2, element-index df n ok, has, item h 3, item h 4)
 reads (instr.Move wd ws) w f =
     let h = f .held in
-    rw (elm w 2 (item h 0) (item h 1) (item h 5) refl, item h 2, item h 1, item h 3, item h 4)
+    by w place.move class.Move (to-elm62 w place.move (item h 0) (item h 1) (item h 5) (item h 2) refl) (alone .move)
+    ∙ rw (item h 3, item h 4)
 reads (instr.Cfcmsa rd cs) w f =
     let h = f .held in
-    rw (elm w 1 (item h 0) (item h 1) (item h 5) refl, item h 2, item h 1, item h 3, item h 4)
+    by w place.cfcmsa class.Cfcmsa (to-elm62 w place.cfcmsa (item h 0) (item h 1) (item h 5) (item h 2) refl)
+    (alone .cfcmsa)
+    ∙ rw (item h 3, item h 4)
 reads (instr.Ctcmsa cd rs) w f =
     let h = f .held in
-    rw (elm w 0 (item h 0) (item h 1) (item h 5) refl, item h 2, item h 1, item h 3, item h 4)
-reads (instr.Vec o wd ws wt) w f =
+    by w place.ctcmsa class.Ctcmsa (to-elm62 w place.ctcmsa (item h 0) (item h 1) (item h 5) (item h 2) refl)
+    (alone .ctcmsa)
+    ∙ rw (item h 3, item h 4)
+reads (instr.Vec k wd ws wt) w f =
     let h = f .held in
-    let e : bits w 25 23 ≡ codes.logicCode o / 4 = omega (arith, split w 21 3 2, item h 1) in
-    rw (msa w (item h 0), item h 5, e, vec-cell o, item h 1, logic-cell o, item h 2, item h 3, item h 4)
+    let e = class-is class.Vec (k .0) (f .ok) in
+    by w (k .0) class.Vec (to-vec w (k .0) (item h 0) (item h 1) (item h 5) (stood class.Vec (k .0) e)) e
+    ∙ rw (item h 2, item h 3, item h 4)
 reads (instr.Fill df wd rs) w f =
     let h = f .held in
-    rw (vec-two w (item h 0) (item h 1) (item h 6), item h 2, item h 3, width-code df, item h 4, item h 5)
-reads (instr.Count o df wd ws) w f =
+    by w place.fill class.Fill (to-two w place.fill (item h 0) (item h 1) (item h 2) (item h 6) refl) (alone .fill)
+    ∙ rw (item h 3, width-code df, f .ok, item h 4, item h 5)
+reads (instr.Count k df wd ws) w f =
     let h = f .held in
-    rw (vec-two w (item h 0) (item h 1) (item h 6), item h 2, count-cell o, item h 3, width-code df, item h 4, item h 5)
-reads (instr.Memory o df wd offset rs) w f =
+    let o = of class.Count (k .0) (hasForm (k .0) df) (f .ok) in
+    by w (k .0) class.Count (to-two w (k .0) (item h 0) (item h 1) (item h 2) (item h 6) (stood class.Count (k .0)
+    (o .0))) (o .0)
+    ∙ rw (item h 3, width-code df, o .1, item h 4, item h 5)
+reads (instr.Memory k df wd offset rs) w f =
     let h = f .held in
-    rw (msa w (item h 0), split w 0 4 2, item h 4, item h 5, memory-cell o df (bits w 25 23) (omega arith), item h 5, width-code df, item h 1, item h 2, item h 3)
-reads (instr.Branch o df wt offset) w f =
+    let o = of class.Memory (k .0) (hasForm (k .0) df) (f .ok) in
+    by w (k .0) class.Memory (to-mi10 w (k .0) (item h 0) (item h 4) (stood class.Memory (k .0) (o .0))) (o .0)
+    ∙ rw (item h 5, width-code df, o .1, item h 1, item h 2, item h 3)
+reads (instr.Branch k df wt offset) w f =
     let h = f .held in
-    rw (cop1 w (item h 0), split w 21 3 2, item h 1, item h 2, each-cell o df, item h 2, width-code df, item h 3, item h 4)
-reads (instr.BranchV o wt offset) w f =
+    let o = of class.Branch (k .0) (hasForm (k .0) df) (f .ok) in
+    by w (k .0) class.Branch (to-branch w (k .0) (item h 0) (item h 1) (stood class.Branch (k .0) (o .0))) (o .0)
+    ∙ rw (item h 2, width-code df, o .1, item h 3, item h 4)
+reads (instr.BranchV k wt offset) w f =
     let h = f .held in
-    rw (cop1 w (item h 0), split w 21 3 2, item h 1, item h 2, whole-cell o, item h 3, item h 4)
-reads (instr.Scaled o rd rs rt sa) w f =
+    let e = class-is class.BranchV (k .0) (f .ok) in
+    by w (k .0) class.BranchV (to-branch w (k .0) (item h 0) (item h 1) (stood class.BranchV (k .0) e)) e
+    ∙ rw (item h 2, item h 3, item h 4)
+reads (instr.Scaled k rd rs rt sa) w f =
     let h = f .held in
-    rw (special w (item h 0), scaled o w (item h 6), item h 4, item h 1, item h 2, item h 3, item h 5)
+    let e = class-is class.Scaled (k .0) (f .ok) in
+    by w (k .0) class.Scaled (to-special w (k .0) (item h 0) (item h 6) (stood class.Scaled (k .0) e)) e
+    ∙ rw (item h 4, item h 1, item h 2, item h 3, item h 5)
 
 -- each instruction that can be written reads back as itself
 pub write-read : WriteRead

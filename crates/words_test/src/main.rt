@@ -1,94 +1,56 @@
-// Runs the vectors of standard input through read_word and write_word, and counts how many agree.
-// tools/words_vectors.py says what stands in a record of twenty bytes.
-mod facts;
-mod places;
+// Runs the cases of standard input, and counts how many agree: the line of a word, and the word of an instruction.
+// tools/words_vectors.py says what stands in a record of 32 bytes.
+mod built;
 
-use crate::facts::Facts;
-use crate::facts::facts_of;
-use crate::facts::same;
-use crate::facts::with_fields;
-use isa::Instr;
-use isa::Read;
-use isa::Unread;
+use crate::built::half_of;
+use crate::built::instr_of;
 use isa::Written;
-use reading::read_word;
+use line_writer::write_line;
+use listing::Line;
 use std::num::wrapping_add_u64;
 use writing::write_word;
 
-// Decode, encode and skipped cases, first of the random files and then of the corners.
+// Decode, encode and skipped cases, first of the random files and then of the corners; the last are encode cases of our
+// own.
 struct Tally {
-    agree: [u64; 6],
-    cases: [u64; 6],
+    agree: [u64; 8],
+    cases: [u64; 8],
 }
 
-fn word_of(a: u8, b: u8, c: u8, d: u8) -> u32 {
-    half_of(a, b) as u32 + half_of(c, d) as u32 * 65536
+fn word_of(r: [u8; 32]) -> u32 {
+    half_of(r[1], r[2]) as u32 + half_of(r[3], r[4]) as u32 * 65536
 }
 
-fn half_of(a: u8, b: u8) -> u16 {
-    a as u16 + b as u16 * 256
-}
-
-fn fields(r: [u8; 20]) -> Facts {
-    Facts {
-        class: r[6],
-        op: r[7],
-        df: r[8],
-        a: r[9],
-        b: r[10],
-        c: r[11],
-        imm: half_of(r[12], r[13]),
+// The line's text stands behind its address and its word.
+fn decodes(r: [u8; 32]) -> bool {
+    let mut line = [0u8; 64];
+    match write_line(&mut line, 0, word_of(r)) {
+        Line::Refused => false,
+        Line::Length(n) => n == r[5] as usize && check::same(&line[19..45], &r[6..]),
     }
 }
 
-fn reason(u: Unread) -> u8 {
-    match u {
-        Unread::Unassigned => 12,
-        Unread::LeftOut => 13,
-        Unread::Other => 14,
+fn encodes(r: [u8; 32]) -> bool {
+    match write_word(instr_of(r)) {
+        Written::Refused => r[5] == 6,
+        Written::Word(w) => r[5] == 0 && w == word_of(r),
     }
-}
-
-fn decodes(word: u32, number: u8, f: Facts) -> bool {
-    match read_word(word) {
-        Read::Not(u) => reason(u) == number,
-        Read::Instr(i) => number == 0 && same(facts_of(i), f),
-    }
-}
-
-fn writes(i: Instr, word: u32, number: u8) -> bool {
-    match write_word(i) {
-        Written::Refused => number == 6,
-        Written::Word(w) => number == 0 && w == word,
-    }
-}
-
-fn encodes(base: u32, word: u32, number: u8, f: Facts) -> bool {
-    match read_word(base) {
-        Read::Not(_) => false,
-        Read::Instr(i) => writes(with_fields(i, f), word, number),
-    }
-}
-
-fn agrees(r: [u8; 20]) -> bool {
-    let word = word_of(r[1], r[2], r[3], r[4]);
-    if r[0] % 3 == 0 {
-        return decodes(word, r[5], fields(r));
-    }
-    encodes(word_of(r[16], r[17], r[18], r[19]), word, r[5], fields(r))
 }
 
 fn counted(n: u64, yes: bool) -> u64 {
     if yes { wrapping_add_u64(n, 1) } else { n }
 }
 
-fn tallied(t: Tally, r: [u8; 20]) -> Tally {
+fn tallied(t: Tally, r: [u8; 32]) -> Tally {
     let mut agree = t.agree;
     let mut cases = t.cases;
-    let k = (r[0] % 6) as usize;
+    let k = (r[0] % 8) as usize;
     cases[k] = counted(cases[k], true);
-    if k % 3 < 2 {
-        agree[k] = counted(agree[k], agrees(r));
+    if k % 3 == 0 {
+        agree[k] = counted(agree[k], decodes(r));
+    }
+    if k % 3 == 1 {
+        agree[k] = counted(agree[k], encodes(r));
     }
     Tally { agree, cases }
 }
@@ -118,18 +80,19 @@ fn report(t: Tally) {
     line(b"corners, decode: ", agree[3], cases[3]);
     line(b"corners, encode: ", agree[4], cases[4]);
     skipped(cases[5]);
+    line(b"refused of our own: ", agree[7], cases[7]);
 }
 
 fn main() {
     let mut t = Tally {
-        agree: [0; 6],
-        cases: [0; 6],
+        agree: [0; 8],
+        cases: [0; 8],
     };
     let mut turns: u32 = 1000000;
     while 0 < turns {
         turns -= 1;
-        let mut r = [0u8; 20];
-        if io::read_full(0, &mut r) < 20 {
+        let mut r = [0u8; 32];
+        if io::read_full(0, &mut r) < 32 {
             turns = 0;
         } else {
             t = tallied(t, r);

@@ -1,23 +1,28 @@
--- The word of an instruction: a layout for each class, widths and values of its fields, the highest first.
+-- The word of an instruction: a layout for each class, widths and values of its fields, the highest first. The
+-- operation's place goes into the word as it is.
 use mathlib.Core.Path.{_≡_}
 use mathlib.Core.Bool.{Bool, true}
 use mathlib.Core.List.{List, [], _∷_}
 use Prim.Native.Nat.{ℕ, _+_, _/_, _%_}
-use lib.Dec.{ltb}
+use lib.Dec.{eqb, ltb}
 use lib.ListN.{length}
 use Rattle.isa.specs.declared.Width.{Width}
 use Rattle.isa.specs.declared.Width.the-variants.{B, H, W, D}
-use Rattle.isa.specs.declared.Copied.{Copied}
+use Rattle.isa.specs.declared.Op.{Op}
 use Rattle.isa.specs.declared.Instr.{Instr}
 use Rattle.isa.specs.declared.Instr.the-variants as instr
 use Rattle.isa.specs.declared.Written.{Written}
 use Rattle.isa.specs.declared.Written.the-variants.{Refused, Word}
 use Rattle.writing.specs.declared.Layout.{Layout}
-use Rattle.codes.specs.Codes as codes
 use Rattle.fields.specs.Fields.{pick, both, total, wordOf, fits}
-use Rattle.codes.specs.Forms.{hasForm, copyForm, notD}
+use Rattle.ops.specs.Classes.{Class}
+use Rattle.ops.specs.Classes as class
+use Rattle.ops.specs.Packed.{classCode}
+use Rattle.ops.specs.Places as place
+use Rattle.ops.specs.Table.{classAt, hasForm}
 use Rattle.isa.specs.Numbers.{writtenSaid}
 use Rattle.isa.specs.Widths as format
+use Rattle.isa.specs.Widths.{widthCode}
 
 -- the widths of the fields, Figures 3-36 to 3-47 and the page of LSA; seven each, the last ones 0 where there are fewer
 abbrev pub i8 : List ℕ
@@ -50,10 +55,6 @@ branch = 6 ∷ 3 ∷ 2 ∷ 5 ∷ 16 ∷ 0 ∷ 0 ∷ []
 abbrev pub special : List ℕ
 special = 6 ∷ 5 ∷ 5 ∷ 5 ∷ 3 ∷ 2 ∷ 6 ∷ []
 
--- 3R has the fields of I5
-abbrev pub three : List ℕ
-three = i5
-
 -- Table 3.14: a format and a bit's index in one field
 abbrev pub bitCode : Width → ℕ → ℕ
 bitCode B m = 112 + m
@@ -62,40 +63,73 @@ bitCode W m = 64 + m
 bitCode D m = m
 
 -- Table 3.13: a format and an element's index in one field
-abbrev pub elementPlaceCode : Width → ℕ → ℕ
-elementPlaceCode B n = n
-elementPlaceCode H n = 32 + n
-elementPlaceCode W n = 48 + n
-elementPlaceCode D n = 56 + n
+abbrev pub elementCode : Width → ℕ → ℕ
+elementCode B n = n
+elementCode H n = 32 + n
+elementCode W n = 48 + n
+elementCode D n = 56 + n
 
-abbrev pub copyOk : Copied → Width → ℕ → Bool
-copyOk o df n = both (copyForm o df) (ltb n (format.elements df))
+-- whether an operation is one of its class, and has its format
+abbrev pub stands : Class → Op → Bool
+stands c k = eqb (classCode (classAt (k .0))) (classCode c)
+
+abbrev pub formed : Class → Op → Width → Bool
+formed c k df = both (stands c k) (hasForm (k .0) df)
 
 -- whether the instruction has its format and index, and its fields
 abbrev layout : Bool → List ℕ → List ℕ → Layout
 layout ok widths values = record { ok = ok; widths = widths; values = values }
 
+-- the layouts that several classes have: I5 and 3R, I8, ELM, 2R, and the branches
+abbrev pub fiveLayout : Bool → Op → Width → ℕ → ℕ → ℕ → Layout
+fiveLayout ok k df t s d = layout ok i5 (30 ∷ k .0 % 8 ∷ widthCode df ∷ t ∷ s ∷ d ∷ k .0 / 8 ∷ [])
+
+abbrev pub eightLayout : Bool → ℕ → ℕ → ℕ → ℕ → ℕ → Layout
+eightLayout ok column imm s d m = layout ok i8 (30 ∷ column ∷ imm ∷ s ∷ d ∷ m ∷ 0 ∷ [])
+
+abbrev pub elmLayout : Bool → ℕ → ℕ → ℕ → ℕ → Layout
+elmLayout ok n index s d = layout ok elm (30 ∷ n ∷ index ∷ s ∷ d ∷ 25 ∷ 0 ∷ [])
+
+abbrev pub twoLayout : Bool → ℕ → Width → ℕ → ℕ → Layout
+twoLayout ok n df s d = layout ok two (30 ∷ 24 ∷ n ∷ widthCode df ∷ s ∷ d ∷ 30 ∷ [])
+
+abbrev pub branchLayout : Bool → Op → ℕ → ℕ → ℕ → Layout
+branchLayout ok k df t offset = layout ok branch (17 ∷ k .0 % 8 ∷ df ∷ t ∷ offset ∷ 0 ∷ 0 ∷ [])
+
 abbrev pub layoutOf : Instr → Layout
-layoutOf (instr.Three o df wd ws wt) = layout (hasForm o df) three (30 ∷ codes.threeCode o % 8 ∷ codes.widthCode df ∷ wt .0 ∷ ws .0 ∷ wd .0 ∷ codes.threeCode o / 8 ∷ [])
-layoutOf (instr.Indexed o df wd ws rt) = layout true three (30 ∷ codes.indexedCode o % 8 ∷ codes.widthCode df ∷ rt .0 ∷ ws .0 ∷ wd .0 ∷ codes.indexedCode o / 8 ∷ [])
-layoutOf (instr.Imm5 o df wd ws imm) = layout true i5 (30 ∷ codes.imm5Code o % 8 ∷ codes.widthCode df ∷ imm ∷ ws .0 ∷ wd .0 ∷ codes.imm5Code o / 8 ∷ [])
-layoutOf (instr.Ldi df wd imm) = layout true i10 (30 ∷ 6 ∷ codes.widthCode df ∷ imm ∷ wd .0 ∷ 7 ∷ 0 ∷ [])
-layoutOf (instr.Bit o df wd ws m) = layout (ltb m (format.bits df)) bit (30 ∷ codes.bitOpCode o % 8 ∷ bitCode df m ∷ ws .0 ∷ wd .0 ∷ codes.bitOpCode o / 8 ∷ 0 ∷ [])
-layoutOf (instr.Imm8 o wd ws imm) = layout true i8 (30 ∷ codes.logicCode o % 4 ∷ imm ∷ ws .0 ∷ wd .0 ∷ codes.logicCode o / 4 ∷ 0 ∷ [])
-layoutOf (instr.Shf df wd ws imm) = layout (notD df) i8 (30 ∷ codes.widthCode df ∷ imm ∷ ws .0 ∷ wd .0 ∷ 2 ∷ 0 ∷ [])
-layoutOf (instr.Element o df wd ws n) = layout (ltb n (format.elements df)) elm (30 ∷ codes.elementCode o ∷ elementPlaceCode df n ∷ ws .0 ∷ wd .0 ∷ 25 ∷ 0 ∷ [])
-layoutOf (instr.Copy o df rd ws n) = layout (copyOk o df n) elm (30 ∷ codes.copiedCode o ∷ elementPlaceCode df n ∷ ws .0 ∷ rd .0 ∷ 25 ∷ 0 ∷ [])
-layoutOf (instr.Insert df wd n rs) = layout (ltb n (format.elements df)) elm (30 ∷ 4 ∷ elementPlaceCode df n ∷ rs .0 ∷ wd .0 ∷ 25 ∷ 0 ∷ [])
-layoutOf (instr.Move wd ws) = layout true elm (30 ∷ 2 ∷ 62 ∷ ws .0 ∷ wd .0 ∷ 25 ∷ 0 ∷ [])
-layoutOf (instr.Cfcmsa rd cs) = layout true elm (30 ∷ 1 ∷ 62 ∷ cs .0 ∷ rd .0 ∷ 25 ∷ 0 ∷ [])
-layoutOf (instr.Ctcmsa cd rs) = layout true elm (30 ∷ 0 ∷ 62 ∷ rs .0 ∷ cd .0 ∷ 25 ∷ 0 ∷ [])
-layoutOf (instr.Vec o wd ws wt) = layout true vec (30 ∷ codes.logicCode o ∷ wt .0 ∷ ws .0 ∷ wd .0 ∷ 30 ∷ 0 ∷ [])
-layoutOf (instr.Fill df wd rs) = layout true two (30 ∷ 24 ∷ 0 ∷ codes.widthCode df ∷ rs .0 ∷ wd .0 ∷ 30 ∷ [])
-layoutOf (instr.Count o df wd ws) = layout true two (30 ∷ 24 ∷ codes.countCode o ∷ codes.widthCode df ∷ ws .0 ∷ wd .0 ∷ 30 ∷ [])
-layoutOf (instr.Memory o df wd offset rs) = layout true mi10 (30 ∷ offset ∷ rs .0 ∷ wd .0 ∷ codes.memoryCode o ∷ codes.widthCode df ∷ 0 ∷ [])
-layoutOf (instr.Branch o df wt offset) = layout true branch (17 ∷ (6 + codes.zeroCode o) ∷ codes.widthCode df ∷ wt .0 ∷ offset ∷ 0 ∷ 0 ∷ [])
-layoutOf (instr.BranchV o wt offset) = layout true branch (17 ∷ (2 + codes.zeroCode o) ∷ 3 ∷ wt .0 ∷ offset ∷ 0 ∷ 0 ∷ [])
-layoutOf (instr.Scaled o rd rs rt sa) = layout true special (0 ∷ rs .0 ∷ rt .0 ∷ rd .0 ∷ 0 ∷ sa ∷ codes.scaledCode o ∷ [])
+layoutOf (instr.Three k df wd ws wt) = fiveLayout (formed class.Three k df) k df (wt .0) (ws .0) (wd .0)
+layoutOf (instr.Indexed k df wd ws rt) = fiveLayout (formed class.Indexed k df) k df (rt .0) (ws .0) (wd .0)
+layoutOf (instr.Imm5U k df wd ws imm) = fiveLayout (formed class.Imm5U k df) k df imm (ws .0) (wd .0)
+layoutOf (instr.Imm5S k df wd ws imm) = fiveLayout (formed class.Imm5S k df) k df imm (ws .0) (wd .0)
+layoutOf (instr.Ldi df wd imm) = layout (hasForm place.ldi df) i10 (30 ∷ 6 ∷ widthCode df ∷ imm ∷ wd .0 ∷ 7 ∷ 0 ∷ [])
+layoutOf (instr.Bit k df wd ws m) =
+    layout (both (formed class.Bit k df) (ltb m (format.bits df))) bit
+    (30 ∷ k .0 % 8 ∷ bitCode df m ∷ ws .0 ∷ wd .0 ∷ k .0 / 8 ∷ 0 ∷ [])
+layoutOf (instr.Imm8 k wd ws imm) = eightLayout (stands class.Imm8 k) (k .0 % 8) imm (ws .0) (wd .0) (k .0 / 8)
+layoutOf (instr.Shf df wd ws imm) = eightLayout (hasForm place.shf df) (widthCode df) imm (ws .0) (wd .0) 2
+layoutOf (instr.Element k df wd ws n) =
+    elmLayout (both (formed class.Element k df) (ltb n (format.elements df))) (k .0 % 16) (elementCode df n) (ws .0)
+    (wd .0)
+layoutOf (instr.Insve df wd n ws) =
+    elmLayout (both (hasForm place.insve df) (ltb n (format.elements df))) 5 (elementCode df n) (ws .0) (wd .0)
+layoutOf (instr.Copy k df rd ws n) =
+    elmLayout (both (formed class.Copy k df) (ltb n (format.elements df))) (k .0 % 16) (elementCode df n) (ws .0)
+    (rd .0)
+layoutOf (instr.Insert df wd n rs) =
+    elmLayout (both (hasForm place.insert df) (ltb n (format.elements df))) 4 (elementCode df n) (rs .0) (wd .0)
+layoutOf (instr.Move wd ws) = elmLayout true 2 62 (ws .0) (wd .0)
+layoutOf (instr.Cfcmsa rd cs) = elmLayout true 1 62 (cs .0) (rd .0)
+layoutOf (instr.Ctcmsa cd rs) = elmLayout true 0 62 (rs .0) (cd .0)
+layoutOf (instr.Vec k wd ws wt) =
+    layout (stands class.Vec k) vec (30 ∷ k .0 % 32 ∷ wt .0 ∷ ws .0 ∷ wd .0 ∷ 30 ∷ 0 ∷ [])
+layoutOf (instr.Fill df wd rs) = twoLayout (hasForm place.fill df) 0 df (rs .0) (wd .0)
+layoutOf (instr.Count k df wd ws) = twoLayout (formed class.Count k df) (k .0 % 8) df (ws .0) (wd .0)
+layoutOf (instr.Memory k df wd offset rs) =
+    layout (formed class.Memory k df) mi10 (30 ∷ offset ∷ rs .0 ∷ wd .0 ∷ k .0 / 32 ∷ widthCode df ∷ 0 ∷ [])
+layoutOf (instr.Branch k df wt offset) = branchLayout (formed class.Branch k df) k (widthCode df) (wt .0) offset
+layoutOf (instr.BranchV k wt offset) = branchLayout (stands class.BranchV k) k 3 (wt .0) offset
+layoutOf (instr.Scaled k rd rs rt sa) =
+    layout (stands class.Scaled k) special (0 ∷ rs .0 ∷ rt .0 ∷ rd .0 ∷ 0 ∷ sa ∷ k .0 % 64 ∷ [])
 
 -- seven fields that fill a word
 pub record Shaped (widths values : List ℕ) : Type 0 where

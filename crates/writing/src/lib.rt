@@ -2,26 +2,7 @@
 mod layouts;
 mod places;
 
-use crate::layouts::bit_layout;
-use crate::layouts::branch_layout;
-use crate::layouts::branch_v_layout;
-use crate::layouts::cfcmsa_layout;
-use crate::layouts::copy_layout;
-use crate::layouts::count_layout;
-use crate::layouts::ctcmsa_layout;
-use crate::layouts::element_layout;
-use crate::layouts::fill_layout;
-use crate::layouts::imm5_layout;
-use crate::layouts::imm8_layout;
-use crate::layouts::indexed_layout;
-use crate::layouts::insert_layout;
-use crate::layouts::ldi_layout;
-use crate::layouts::memory_layout;
-use crate::layouts::move_layout;
-use crate::layouts::scaled_layout;
-use crate::layouts::shf_layout;
-use crate::layouts::three_layout;
-use crate::layouts::vec_layout;
+use crate::layouts::*;
 use isa::Instr;
 use isa::Written;
 ghost use mathlib.Core.Path.{_≡_};
@@ -40,38 +21,46 @@ fn layout_of(i: Instr) -> Layout
     ensures { λ r. ⌜ r ≡ writing.layoutOf i ⌝ }
 {
     match i {
-        Instr::Three { op, df, wd, ws, wt } => three_layout(op, df, wd, ws, wt),
-        Instr::Indexed { op, df, wd, ws, rt } => indexed_layout(op, df, wd, ws, rt),
-        Instr::Imm5 {
+        Instr::Three { op, df, wd, ws, wt } => three(op, df, wd, ws, wt),
+        Instr::Indexed { op, df, wd, ws, rt } => indexed(op, df, wd, ws, rt),
+        Instr::Imm5U {
             op,
             df,
             wd,
             ws,
             imm,
-        } => imm5_layout(op, df, wd, ws, imm),
-        Instr::Ldi { df, wd, imm } => ldi_layout(df, wd, imm),
-        Instr::Bit { op, df, wd, ws, m } => bit_layout(op, df, wd, ws, m),
-        Instr::Imm8 { op, wd, ws, imm } => imm8_layout(op, wd, ws, imm),
-        Instr::Shf { df, wd, ws, imm } => shf_layout(df, wd, ws, imm),
-        Instr::Element { op, df, wd, ws, n } => element_layout(op, df, wd, ws, n),
-        Instr::Copy { op, df, rd, ws, n } => copy_layout(op, df, rd, ws, n),
-        Instr::Insert { df, wd, n, rs } => insert_layout(df, wd, n, rs),
-        Instr::Move { wd, ws } => move_layout(wd, ws),
-        Instr::Cfcmsa { rd, cs } => cfcmsa_layout(rd, cs),
-        Instr::Ctcmsa { cd, rs } => ctcmsa_layout(cd, rs),
-        Instr::Vec { op, wd, ws, wt } => vec_layout(op, wd, ws, wt),
-        Instr::Fill { df, wd, rs } => fill_layout(df, wd, rs),
-        Instr::Count { op, df, wd, ws } => count_layout(op, df, wd, ws),
+        } => imm5_u(op, df, wd, ws, imm),
+        Instr::Imm5S {
+            op,
+            df,
+            wd,
+            ws,
+            imm,
+        } => imm5_s(op, df, wd, ws, imm),
+        Instr::Ldi { df, wd, imm } => ldi(df, wd, imm),
+        Instr::Bit { op, df, wd, ws, m } => bit(op, df, wd, ws, m),
+        Instr::Imm8 { op, wd, ws, imm } => imm8(op, wd, ws, imm),
+        Instr::Shf { df, wd, ws, imm } => shf(df, wd, ws, imm),
+        Instr::Element { op, df, wd, ws, n } => element(op, df, wd, ws, n),
+        Instr::Insve { df, wd, n, ws } => insve(df, wd, n, ws),
+        Instr::Copy { op, df, rd, ws, n } => copied(op, df, rd, ws, n),
+        Instr::Insert { df, wd, n, rs } => insert(df, wd, n, rs),
+        Instr::Move { wd, ws } => move_v(wd, ws),
+        Instr::Cfcmsa { rd, cs } => cfcmsa(rd, cs),
+        Instr::Ctcmsa { cd, rs } => ctcmsa(cd, rs),
+        Instr::Vec { op, wd, ws, wt } => vec(op, wd, ws, wt),
+        Instr::Fill { df, wd, rs } => fill(df, wd, rs),
+        Instr::Count { op, df, wd, ws } => count(op, df, wd, ws),
         Instr::Memory {
             op,
             df,
             wd,
             offset,
             rs,
-        } => memory_layout(op, df, wd, offset, rs),
-        Instr::Branch { op, df, wt, offset } => branch_layout(op, df, wt, offset),
-        Instr::BranchV { op, wt, offset } => branch_v_layout(op, wt, offset),
-        Instr::Scaled { op, rd, rs, rt, sa } => scaled_layout(op, rd, rs, rt, sa),
+        } => memory(op, df, wd, offset, rs),
+        Instr::Branch { op, df, wt, offset } => branch(op, df, wt, offset),
+        Instr::BranchV { op, wt, offset } => branch_v(op, wt, offset),
+        Instr::Scaled { op, rd, rs, rt, sa } => scaled(op, rd, rs, rt, sa),
     }
 }
 

@@ -38,8 +38,8 @@ pub fn element_count(df: Width) -> u8
     }
 }
 
-pub fn element_place_code(df: Width, n: u8) -> u32
-    ensures { λ r. ⌜ r ≡ writing.elementPlaceCode df n ⌝ }
+pub fn element_code(df: Width, n: u8) -> u32
+    ensures { λ r. ⌜ r ≡ writing.elementCode df n ⌝ }
 {
     let n = n as u32;
     match df {

@@ -9,4 +9,6 @@ pub bit-spec : {M : Type 1} → statement M
 bit-spec =
     tie.close (tie.spec
     (λ c κs. search needs) (λ c κs. search needs)
-    (λ c. rw (← value-filled (shares (c .before .before .args .w)) (c .before .before .args .m), ← c .before .spread .ensures) (c .each .ensures)))
+    (λ c.
+    let start = c .before .before in
+    rw (← value-filled (shares (start .args .w)) (start .args .m), ← c .before .spread .ensures) (c .each .ensures)))

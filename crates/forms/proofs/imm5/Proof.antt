@@ -7,19 +7,13 @@ use Rattle.forms.proofs.imm5.Tie as tie
 
 returns : tie.Need-returns
 returns c =
-    let made = c .before .before .before .immediate in
-    let start = c .before .before .before .before .before in
-    rw (
-      ← c .before .before .before .before .imm5-signed .ensures,
-      ← made .ensures,
-      ← value-filled (shares (start .args .w)) (made .result),
-      ← c .before .before .spread .ensures,
-      ← c .before .imm5-arith .ensures,
-    )
+    let made = c .before .before .immediate in
+    let start = c .before .before .before in
+    rw (← made .ensures, ← value-filled (shares (start .args .w)) (made .result), ← c .before .spread .ensures)
     (c .each .ensures)
 
 pub imm5-spec : {M : Type 1} → statement M
 imm5-spec =
     tie.close (tie.spec
-    (λ c κs. search needs) (λ c κs. search needs) (λ c κs. search needs) (λ c κs. search needs) (λ c κs. search needs)
+    (λ c κs. search needs) (λ c κs. search needs) (λ c κs. search needs)
     returns)

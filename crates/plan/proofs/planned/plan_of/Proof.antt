@@ -7,11 +7,22 @@ use Rattle.plan.proofs.planned.plan_of.Tie as tie
 
 returns : tie.Need-returns
 unfolding planOf
-returns c = rw (← c .before .before .before .before .kind-of .ensures, ← c .before .before .before .early-stop .ensures, c .before .enum-told .given .1) (c .execute .ensures)
+returns c =
+    rw (
+      ← c .before .before .before .before .kind-of .ensures,
+      ← c .before .before .before .early-stop .ensures,
+      c .before .enum-told .given .1,
+    )
+    (c .execute .ensures)
 
 returns-2 : tie.Need-returns-2
 unfolding planOf
-returns-2 c = rw (← c .before .before .before .before .kind-of .ensures, ← c .before .before .before .early-stop .ensures, c .before .s .given .1)
+returns-2 c =
+    rw (
+      ← c .before .before .before .before .kind-of .ensures,
+      ← c .before .before .before .early-stop .ensures,
+      c .before .s .given .1,
+    )
 
 pub plan-of-spec : {M : Type 1} → statement M
 plan-of-spec =

@@ -5,6 +5,6 @@ use Rattle.shown.proofs.classes.memory.Tie as tie
 
 pub memory-spec : {M : Type 1} → statement M
 memory-spec =
-    tie.close (tie.spec
-    (λ c κs. search needs) (λ c κs. search needs) (λ c κs. search needs) (λ c. search needs) (λ c κs. search needs)
-    (λ c. cc))
+    tie.close
+    (tie.spec (λ c κs. search needs) (λ c κs. search needs)
+    (λ c. rw (c .scaled .ensures, c .before .signed .ensures .0)))

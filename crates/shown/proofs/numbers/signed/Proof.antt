@@ -27,5 +27,8 @@ pub signed-spec : {M : Type 1} → statement M
 signed-spec =
     tie.close (tie.spec
     (λ c. search needs) (λ c. search needs) (λ c κs. search needs) returns
-    (λ c. let low : c .before .args .x % c .before .args .full < c .before .args .full = mod-lt (c .before .args .x) (omega arith) in omega arith)
+    (λ c.
+    let a = c .before .args in
+    let low : a .x % a .full < a .full = mod-lt (a .x) (omega arith) in
+    omega arith)
     (λ c. search needs) (λ c κs. search needs) returns-2)

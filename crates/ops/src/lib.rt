@@ -1,0 +1,116 @@
+// The table of operations in the code: a byte a place, eight places a number. specs/Table.antt has the table in
+// words, and specs/Packed.antt what a byte says.
+use isa::Width;
+ghost use mathlib.Core.Path.{_≡_};
+ghost use lib.Dec.{eqb};
+ghost use Rattle.ops.specs.Formats as formats;
+ghost use Rattle.ops.specs.Table.{classAt, hasForm};
+ghost use Rattle.ops.specs.Packed.{classCode, formatsOf, byteAt, rowWord};
+
+// A row of the table in one number, a byte a column.
+fn row_word(m: u32) -> u64
+    ensures { λ r. ⌜ r ≡ rowWord m ⌝ }
+{
+    match m {
+        0 => 0x0000_0000_6767_6767,
+        1 => 0x0000_0000_0067_6767,
+        2 => 0x0000_0000_0000_0048,
+        6 => 0x0000_0304_0304_0303,
+        7 => 0x0005_0304_0304_0004,
+        9 => 0x0606_0606_0606_0606,
+        10 => 0x0000_0000_0606_0606,
+        13 => 0x0101_0101_0101_0101,
+        14 => 0x0101_0101_0101_0101,
+        15 => 0x0000_0101_0101_0001,
+        16 => 0x0101_0101_0101_0101,
+        17 => 0x0000_0101_0101_0101,
+        18 => 0x0101_0101_0001_0101,
+        19 => 0x0000_2121_2121_2121,
+        20 => 0x0101_0101_0101_0202,
+        21 => 0x2121_2121_0001_0101,
+        32 => 0x0000_0000_0000_0013,
+        36 => 0x0000_0000_0000_0013,
+        40 => 0x0000_0a0c_4b0b_0909,
+        42 => 0x0000_0000_008d_aeaf,
+        44 => 0x0090_9090_9090_9090,
+        47 => 0x0000_0000_0000_b700,
+        48 => 0xb7b7_b7b7_b7b7_b7b7,
+        49 => 0xb7b7_b7b7_b7b7_b7b7,
+        50 => 0xb700_b7b7_b7b7_b7b7,
+        51 => 0xb7b7_b7b7_00b7_00b7,
+        52 => 0x00b7_b7b7_b7b7_b700,
+        53 => 0x00b7_b7b7_b7b7_b700,
+        54 => 0x0000_0000_1212_1211,
+        55 => 0x1414_0000_9595_0000,
+        56 => 0x0000_b600_0000_0000,
+        58 => 0x0000_b600_0000_0000,
+        _ => 0,
+    }
+}
+
+// The class and, 32 times, the formats at a place.
+pub fn byte_at(k: u32) -> u64
+    ensures { λ r. ⌜ r ≡ byteAt k ⌝ }
+{
+    (row_word(k / 8) >> (k % 8 * 8)) % 256
+}
+
+// Whether the class at a place has this number.
+pub fn stands(k: u32, class: u64) -> bool
+    ensures { λ r. ⌜ r ≡ eqb (classCode (classAt k)) class ⌝ }
+{
+    byte_at(k) % 32 == class
+}
+
+fn not_b(df: Width) -> bool
+    ensures { λ r. ⌜ r ≡ formats.has (formatsOf 1) df ⌝ }
+{
+    match df {
+        Width::B => false,
+        Width::H => true,
+        Width::W => true,
+        Width::D => true,
+    }
+}
+
+fn not_d(df: Width) -> bool
+    ensures { λ r. ⌜ r ≡ formats.has (formatsOf 2) df ⌝ }
+{
+    match df {
+        Width::B => true,
+        Width::H => true,
+        Width::W => true,
+        Width::D => false,
+    }
+}
+
+fn only_b(df: Width) -> bool
+    ensures { λ r. ⌜ r ≡ formats.has (formatsOf 3) df ⌝ }
+{
+    match df {
+        Width::B => true,
+        Width::H => false,
+        Width::W => false,
+        Width::D => false,
+    }
+}
+
+// Whether a choice of formats, by its number, has a format.
+pub fn has(n: u64, df: Width) -> bool
+    ensures { λ r. ⌜ r ≡ formats.has (formatsOf n) df ⌝ }
+{
+    match n {
+        0 => true,
+        1 => not_b(df),
+        2 => not_d(df),
+        3 => only_b(df),
+        _ => false,
+    }
+}
+
+// Whether the operation at a place has a format.
+pub fn has_form(k: u32, df: Width) -> bool
+    ensures { λ r. ⌜ r ≡ hasForm k df ⌝ }
+{
+    has(byte_at(k) / 32, df)
+}

@@ -1,0 +1,9 @@
+-- `reading::classes::element` meets its contract. Assumes nothing.
+use borrow.Author.Needs.{needs}
+use Rattle.reading.proofs.classes.element.Statement.{statement}
+use Rattle.reading.proofs.classes.element.Tie as tie
+
+pub element-spec : {M : Type 1} → statement M
+element-spec =
+    tie.close (tie.spec (λ c. search needs) (λ c κs. search needs) (λ c κs. search needs) (λ c κs. search needs)
+    (λ c κs. search needs) (λ c κs. search needs) (λ c. cc))

@@ -1,0 +1,10 @@
+-- `reading::classes::given` meets its contract. Assumes nothing.
+use borrow.Author.Needs.{needs}
+use Rattle.reading.proofs.classes.given.Statement.{statement}
+use Rattle.reading.proofs.classes.given.Tie as tie
+
+pub given-spec : {M : Type 1} → statement M
+given-spec =
+    tie.close
+    (tie.spec
+    (λ c κs. search needs) (λ c. rw (c .if1 .taken)) (λ c. rw (c .before .if1 .left) (c .vacant .ensures)))

@@ -1,0 +1,9 @@
+-- `reading::classes::imm5_s` meets its contract. Assumes nothing.
+use borrow.Author.Needs.{needs}
+use Rattle.reading.proofs.classes.imm5_s.Statement.{statement}
+use Rattle.reading.proofs.classes.imm5_s.Tie as tie
+
+pub imm5-s-spec : {M : Type 1} → statement M
+imm5-s-spec =
+    tie.close (tie.spec (λ c κs. search needs) (λ c κs. search needs) (λ c κs. search needs) (λ c κs. search needs)
+    (λ c κs. search needs) (λ c κs. search needs) (λ c. cc))

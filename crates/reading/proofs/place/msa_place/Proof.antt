@@ -1,0 +1,35 @@
+-- `reading::place::msa_place` meets its contract. Assumes nothing.
+use Rattle.reading.proofs.Low.{low6}
+use borrow.Author.Tests.{lt-ltb, le-ltb}
+use native.Mathlib.Omega.{arith}
+use borrow.Author.Needs.{needs}
+use Rattle.reading.proofs.place.msa_place.Statement.{statement}
+use Rattle.reading.proofs.place.msa_place.Tie as tie
+
+pub msa-place-spec : {M : Type 1} → statement M
+msa-place-spec =
+    tie.close
+    (tie.spec
+    (λ c. search needs) (λ c. search needs)
+    (λ c. (rw (low6 _, lt-ltb _ _ (c .if1 .taken)) (omega arith), omega arith))
+    (λ c. (rw (low6 _, le-ltb _ _ (c .before .if1 .left), lt-ltb _ _ (c .if2 .taken)), omega arith))
+    (λ c. search needs) (λ c. search needs)
+    (λ c. (
+      rw (
+        low6 _,
+        le-ltb _ _ (c .before .before .if1 .left),
+        le-ltb _ _ (c .before .if2 .left),
+        lt-ltb _ _ (c .if3 .taken),
+      ) (omega arith),
+      omega arith,
+    ))
+    (λ c κs. search needs)
+    (λ c. (
+      rw (
+        low6 _,
+        le-ltb _ _ (c .before .before .before .if1 .left),
+        le-ltb _ _ (c .before .before .if2 .left),
+        le-ltb _ _ (c .before .if3 .left),
+      ) (rw (low6 _) at (c .high-place .ensures .0)),
+      c .high-place .ensures .1,
+    )))

@@ -1,9 +1,0 @@
--- `shown::classes::branch_v` meets its contract. Assumes nothing.
-use borrow.Author.Needs.{needs}
-use Rattle.shown.proofs.classes.branch_v.Statement.{statement}
-use Rattle.shown.proofs.classes.branch_v.Tie as tie
-
-pub branch-v-spec : {M : Type 1} → statement M
-branch-v-spec =
-    tie.close (tie.spec
-    (λ c κs. search needs) (λ c. search needs) (λ c κs. search needs) (λ c κs. search needs) (λ c. cc))

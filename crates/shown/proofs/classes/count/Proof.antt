@@ -1,9 +1,0 @@
--- `shown::classes::count` meets its contract. Assumes nothing.
-use borrow.Author.Needs.{needs}
-use Rattle.shown.proofs.classes.count.Statement.{statement}
-use Rattle.shown.proofs.classes.count.Tie as tie
-
-pub count-spec : {M : Type 1} → statement M
-count-spec =
-    tie.close (tie.spec
-    (λ c κs. search needs) (λ c. search needs) (λ c κs. search needs) (λ c. cc))

@@ -1,0 +1,15 @@
+-- `writing::layouts::copied` meets its contract. Assumes nothing.
+use borrow.Author.Needs.{needs}
+use Rattle.writing.proofs.layouts.copied.Statement.{statement}
+use Rattle.writing.proofs.layouts.copied.Tie as tie
+
+pub copied-spec : {M : Type 1} → statement M
+copied-spec =
+    tie.close
+    (tie.spec
+    (λ c κs. search needs) (λ c κs. search needs) (λ c. search needs) (λ c κs. search needs) (λ c κs. search needs)
+    (λ c. rw (
+      c .before .element-code .ensures,
+      c .before .before .before .element-count .ensures,
+      c .before .before .before .before .formed .ensures,
+    ) at (c .elm .ensures)))

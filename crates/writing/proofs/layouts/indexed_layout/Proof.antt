@@ -1,9 +1,0 @@
--- `writing::layouts::indexed_layout` meets its contract. Assumes nothing.
-use borrow.Author.Needs.{needs}
-use Rattle.writing.proofs.layouts.indexed_layout.Statement.{statement}
-use Rattle.writing.proofs.layouts.indexed_layout.Tie as tie
-
-pub indexed-layout-spec : {M : Type 1} → statement M
-indexed-layout-spec =
-    tie.close
-    (tie.spec (λ c κs. search needs) (λ c κs. search needs) (λ c. search needs) (λ c. search needs) (λ c. search needs) (λ c. cc))
