@@ -50,6 +50,10 @@ pub fn read_word(w: u32) -> Read
     ensures { λ r. ⌜ reading.Reads w r ⌝ }
 {
     let k = place_of(w);
+    // A word of no table. Answered here, it leaves no constant place for the look-up, which then is one load.
+    if k == 512 {
+        return vacant(w);
+    }
     let byte = byte_at(k as u32);
     read_class(byte % 32, byte / 32, k, w)
 }

@@ -8,6 +8,17 @@ ghost use Rattle.ops.specs.Places as place;
 ghost use Rattle.reading.specs.Reading.{placeIn, placeOf, msaBlock};
 ghost use Rattle.reading.specs.Reading as reading;
 
+// I8, under the minor opcodes 0 and 1, and SHF, whose bits 25..24 are its format, under 2.
+fn i8_place(w: u32) -> u32
+    ensures { λ r. ⌜ (r ≡ placeIn (cond (ltb (bits w 5 0) 2) reading.i8 reading.shf) w) × (r < 17) ⌝ }
+{
+    let m = w % 64;
+    if m < 2 {
+        return m * 8 + w / 16777216 % 4;
+    }
+    16
+}
+
 // ELM, under the minor opcode 25.
 fn elm_place(w: u32) -> u32
     ensures { λ r. ⌜ (r ≡ placeIn (cond (eqb (bits w 21 16) 62) reading.elm62 reading.elm) w) × (r < 352) ⌝ }
@@ -56,11 +67,8 @@ fn msa_place(w: u32) -> u32
     ensures { λ r. ⌜ (r ≡ placeIn (msaBlock w) w) × (r < 513) ⌝ }
 {
     let m = w % 64;
-    if m < 2 {
-        return m * 8 + w / 16777216 % 4;
-    }
     if m < 3 {
-        return 16;
+        return i8_place(w);
     }
     if m < 25 {
         return m * 8 + w / 8388608 % 8;

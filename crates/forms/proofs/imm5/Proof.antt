@@ -9,8 +9,8 @@ returns : tie.Need-returns
 returns c =
     let made = c .before .before .immediate in
     let start = c .before .before .before in
-    rw (← made .ensures, ← value-filled (shares (start .args .w)) (made .result), ← c .before .spread .ensures)
-    (c .each .ensures)
+    rw (c .before .spread .ensures, value-filled (shares (start .args .w)) (made .result), made .ensures)
+    at (c .each .ensures)
 
 pub imm5-spec : {M : Type 1} → statement M
 imm5-spec =
