@@ -1,2 +1,3 @@
 pub mod Low
+pub mod Ranges
 pub mod Said

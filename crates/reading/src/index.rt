@@ -26,47 +26,34 @@ fn reserved() -> Index
     }
 }
 
+// The size patterns from base on are those of df; rest says what the others are.
+fn range(df: Width, base: u8, size: u8, x: u8, rest: Index) -> Index
+    ensures { λ r. ⌜ r ≡ index.range df base size x rest ⌝ }
+{
+    if x < base {
+        return rest;
+    }
+    let n = x - base;
+    if n < size {
+        return at(df, n);
+    }
+    rest
+}
+
 pub fn bit_index(x: u8) -> Index
     ensures { λ r. ⌜ r ≡ index.bitIndex x ⌝ }
 {
-    if x < 64 {
-        return at(Width::D, x);
-    }
-    if x < 96 {
-        return at(Width::W, x - 64);
-    }
-    if x < 112 {
-        return at(Width::H, x - 96);
-    }
-    if x < 120 {
-        return at(Width::B, x - 112);
-    }
-    reserved()
+    let b = range(Width::B, 112, 8, x, reserved());
+    let h = range(Width::H, 96, 16, x, b);
+    let w = range(Width::W, 64, 32, x, h);
+    range(Width::D, 0, 64, x, w)
 }
 
 pub fn element_index(x: u8) -> Index
     ensures { λ r. ⌜ r ≡ index.elementIndex x ⌝ }
 {
-    if x < 16 {
-        return at(Width::B, x);
-    }
-    if x < 32 {
-        return reserved();
-    }
-    if x < 40 {
-        return at(Width::H, x - 32);
-    }
-    if x < 48 {
-        return reserved();
-    }
-    if x < 52 {
-        return at(Width::W, x - 48);
-    }
-    if x < 56 {
-        return reserved();
-    }
-    if x < 58 {
-        return at(Width::D, x - 56);
-    }
-    reserved()
+    let d = range(Width::D, 56, 2, x, reserved());
+    let w = range(Width::W, 48, 4, x, d);
+    let h = range(Width::H, 32, 8, x, w);
+    range(Width::B, 0, 16, x, h)
 }

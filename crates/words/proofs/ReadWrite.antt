@@ -22,6 +22,7 @@ use Rattle.ops.specs.Table.{classAt, formatsAt, hasForm}
 use Rattle.reading.specs.declared.index.Index.{Index}
 use Rattle.fields.specs.Fields.{both, bits, total}
 use Rattle.reading.specs.Index.{at, bitIndex, elementIndex}
+use Rattle.reading.proofs.Ranges.{by-range}
 use Rattle.reading.specs.Reading as reading
 use Rattle.reading.specs.Reading.{Block, i8, minor, elm, elm62, vec, float, two, mi10, branch, special, shf}
 use Rattle.reading.specs.Reading.{placeIn, placeOf, op, df, vd, vs, vt, ga, gd, gs, gt, readOf, readClass, vacant}
@@ -72,22 +73,19 @@ no e = absurd (let z : _≡_ {A = ℕ} 0 1 = cc in omega arith)
 
 bit-index : (x : ℕ) → BitOk x (bitIndex x)
 bit-index x =
-    below (BitOk x) x 64 (at D x) _ (λ h e. (refl, lt-ltb _ _ h))
-    (λ l. below (BitOk x) x 96 (at W (x - 64)) _ (λ h e. (omega arith, lt-ltb (x - 64) 32 (omega arith)))
-    (λ l. below (BitOk x) x 112 (at H (x - 96)) _ (λ h e. (omega arith, lt-ltb (x - 96) 16 (omega arith)))
-    (λ l. below (BitOk x) x 120 (at B (x - 112)) _ (λ h e. (omega arith, lt-ltb (x - 112) 8 (omega arith)))
-    (λ l e. no e))))
+    by-range D 0 64 x _ (BitOk x) (λ l h e. (omega arith, lt-ltb (x - 0) 64 (omega arith)))
+    (by-range W 64 32 x _ (BitOk x) (λ l h e. (omega arith, lt-ltb (x - 64) 32 (omega arith)))
+    (by-range H 96 16 x _ (BitOk x) (λ l h e. (omega arith, lt-ltb (x - 96) 16 (omega arith)))
+    (by-range B 112 8 x _ (BitOk x) (λ l h e. (omega arith, lt-ltb (x - 112) 8 (omega arith)))
+    (λ e. no e))))
 
 element-index : (x : ℕ) → ElementOk x (elementIndex x)
 element-index x =
-    below (ElementOk x) x 16 (at B x) _ (λ h e. (refl, lt-ltb _ _ h))
-    (λ l. below (ElementOk x) x 32 _ _ (λ h e. no e)
-    (λ l. below (ElementOk x) x 40 (at H (x - 32)) _ (λ h e. (omega arith, lt-ltb (x - 32) 8 (omega arith)))
-    (λ l. below (ElementOk x) x 48 _ _ (λ h e. no e)
-    (λ l. below (ElementOk x) x 52 (at W (x - 48)) _ (λ h e. (omega arith, lt-ltb (x - 48) 4 (omega arith)))
-    (λ l. below (ElementOk x) x 56 _ _ (λ h e. no e)
-    (λ l. below (ElementOk x) x 58 (at D (x - 56)) _ (λ h e. (omega arith, lt-ltb (x - 56) 2 (omega arith)))
-    (λ l e. no e)))))))
+    by-range B 0 16 x _ (ElementOk x) (λ l h e. (omega arith, lt-ltb (x - 0) 16 (omega arith)))
+    (by-range H 32 8 x _ (ElementOk x) (λ l h e. (omega arith, lt-ltb (x - 32) 8 (omega arith)))
+    (by-range W 48 4 x _ (ElementOk x) (λ l h e. (omega arith, lt-ltb (x - 48) 4 (omega arith)))
+    (by-range D 56 2 x _ (ElementOk x) (λ l h e. (omega arith, lt-ltb (x - 56) 2 (omega arith)))
+    (λ e. no e))))
 
 module _ (w : ℕ) (h : w < 4294967296) where
   abbrev k : ℕ
@@ -144,12 +142,23 @@ module _ (w : ℕ) (h : w < 4294967296) where
   abbrev has : Bool
   has = hasForm k (dfn .df)
 
+  -- an element's format and index: what is asked of them, and the word of an instruction with them
   module _ (t : both (dfn .ok) has ≡ true) where
     index-code : writing.elementCode (dfn .df) (dfn .n) ≡ bits w 21 16
     index-code = element-index (bits w 21 16) (ok-part dfn has t) .0
 
     index-small : ltb (dfn .n) (format.elements (dfn .df)) ≡ true
     index-small = element-index (bits w 21 16) (ok-part dfn has t) .1
+
+  elm-back : (i : Instr) → Facts elm w × (k ≡ placeIn elm w)
+      → (ltb (dfn .n) (format.elements (dfn .df)) ≡ true → has ≡ true
+      → layoutOf i ≡ writing.elmLayout true (k % 16) (writing.elementCode (dfn .df) (dfn .n)) (bits w 15 11) (bits w 10 6))
+      → Back w (reading.given w (both (dfn .ok) has) i)
+  elm-back i f e =
+      let p = f .1 in
+      given-back (both (dfn .ok) has) i
+      (λ t. let q = e (index-small t) (has-part dfn has t) in
+      writes i w h (rw q) (rw q (fields (f .0 .0) (omega arith) (index-code t) refl refl (f .0 .1) none)))
 
   -- with 111110
   control-back : (i : Instr) (n : ℕ) → k ≡ place.elm62 n
@@ -209,41 +218,17 @@ module _ (w : ℕ) (h : w < 4294967296) where
       (bits w 23 16)) (λ ok. writes _ w h (rw p at ok) (fields (f .0 .0) (code-width (bits w 25 24)
       (omega arith)) refl refl refl (f .0 .1) none))
   class-back class.Element e =
-      let f = found w elm (stood class.Element k e) in
-      let p = f .1 in
-      given-back (both (dfn .ok) has) (instr.Element (op k) (dfn .df) (vd w) (vs w) (dfn .n))
-      (λ t. writes _ w h (rw (
-        e,
-        has-part dfn has t,
-        index-small t,
-      )) (fields (f .0 .0) (omega arith) (index-code t) refl refl (f .0 .1) none))
+      elm-back (instr.Element (op k) (dfn .df) (vd w) (vs w) (dfn .n)) (found w elm (stood class.Element k e))
+      (λ s m. rw (e, m, s))
   class-back class.Insve e =
       let q = sole class.Insve k place.insve e refl in
-      let f = found w elm (rw q) in
-      let p = f .1 in
-      given-back (both (dfn .ok) has) (instr.Insve (dfn .df) (vd w) (dfn .n) (vs w))
-      (λ t. writes _ w h (rw (
-        rw q at (has-part dfn has t),
-        index-small t,
-      )) (fields (f .0 .0) (omega arith) (index-code t) refl refl (f .0 .1) none))
+      elm-back (instr.Insve (dfn .df) (vd w) (dfn .n) (vs w)) (found w elm (rw q)) (λ s m. rw (q, rw q at m, s))
   class-back class.Copy e =
-      let f = found w elm (stood class.Copy k e) in
-      let p = f .1 in
-      given-back (both (dfn .ok) has) (instr.Copy (op k) (dfn .df) (gd w) (vs w) (dfn .n))
-      (λ t. writes _ w h (rw (
-        e,
-        has-part dfn has t,
-        index-small t,
-      )) (fields (f .0 .0) (omega arith) (index-code t) refl refl (f .0 .1) none))
+      elm-back (instr.Copy (op k) (dfn .df) (gd w) (vs w) (dfn .n)) (found w elm (stood class.Copy k e))
+      (λ s m. rw (e, m, s))
   class-back class.Insert e =
       let q = sole class.Insert k place.insert e refl in
-      let f = found w elm (rw q) in
-      let p = f .1 in
-      given-back (both (dfn .ok) has) (instr.Insert (dfn .df) (vd w) (dfn .n) (gs w))
-      (λ t. writes _ w h (rw (
-        rw q at (has-part dfn has t),
-        index-small t,
-      )) (fields (f .0 .0) (omega arith) (index-code t) refl refl (f .0 .1) none))
+      elm-back (instr.Insert (dfn .df) (vd w) (dfn .n) (gs w)) (found w elm (rw q)) (λ s m. rw (q, rw q at m, s))
   class-back class.Move e = instr-back _ (control-back _ _ (sole class.Move k place.move e refl) refl refl
       (omega arith))
   class-back class.Cfcmsa e = instr-back _ (control-back _ _ (sole class.Cfcmsa k place.cfcmsa e refl) refl refl

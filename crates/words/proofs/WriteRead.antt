@@ -22,6 +22,7 @@ use Rattle.ops.specs.Places as place
 use Rattle.ops.specs.Table.{rowAt, classAt, formatsAt, hasForm}
 use Rattle.fields.specs.Fields.{pick, both, bits, wordOf, fits}
 use Rattle.reading.specs.Index.{at, bitIndex, elementIndex}
+use Rattle.reading.proofs.Ranges.{in-range, past-range, range-index}
 use Rattle.reading.specs.Reading.{minor, elm, placeOf, readClass, readOf}
 use Rattle.writing.specs.Writing as writing
 use Rattle.writing.specs.Writing.{writeOf, layoutOf}
@@ -62,57 +63,31 @@ fit i w e =
 -- ---- a format and an index from their field
 
 bit-index : (df : Width) (m : ℕ) → ltb m (format.bits df) ≡ true → bitIndex (writing.bitCode df m) ≡ at df m
-bit-index D m e = rw e
-bit-index W m e =
-    let h = ltb-true m 32 e in
-    rw (le-ltb (64 + m) 64 (omega arith), lt-ltb (64 + m) 96 (omega arith)) (ap (at W) (omega arith))
+bit-index D m e = in-range D 0 64 m _ (omega arith) (ltb-true m 64 e) ∙ ap (at D) (omega arith)
+bit-index W m e = past-range D 0 64 (64 + m) _ (omega arith) ∙ range-index W 64 32 m _ (ltb-true m 32 e)
 bit-index H m e =
-    let h = ltb-true m 16 e in
-    rw (
-      le-ltb (96 + m) 64 (omega arith),
-      le-ltb (96 + m) 96 (omega arith),
-      lt-ltb (96 + m) 112 (omega arith),
-    ) (ap (at H) (omega arith))
+    past-range D 0 64 (96 + m) _ (omega arith)
+    ∙ past-range W 64 32 (96 + m) _ (omega arith)
+    ∙ range-index H 96 16 m _ (ltb-true m 16 e)
 bit-index B m e =
-    let h = ltb-true m 8 e in
-    rw (
-      le-ltb (112 + m) 64 (omega arith),
-      le-ltb (112 + m) 96 (omega arith),
-      le-ltb (112 + m) 112 (omega arith),
-      lt-ltb (112 + m) 120 (omega arith),
-    )
-    (ap (at B) (omega arith))
+    past-range D 0 64 (112 + m) _ (omega arith)
+    ∙ past-range W 64 32 (112 + m) _ (omega arith)
+    ∙ past-range H 96 16 (112 + m) _ (omega arith)
+    ∙ range-index B 112 8 m _ (ltb-true m 8 e)
 
 element-index : (df : Width) (n : ℕ) → ltb n (format.elements df) ≡ true
     → elementIndex (writing.elementCode df n) ≡ at df n
-element-index B n e = rw e
-element-index H n e =
-    let h = ltb-true n 8 e in
-    rw (
-      le-ltb (32 + n) 16 (omega arith),
-      le-ltb (32 + n) 32 (omega arith),
-      lt-ltb (32 + n) 40 (omega arith),
-    ) (ap (at H) (omega arith))
+element-index B n e = in-range B 0 16 n _ (omega arith) (ltb-true n 16 e) ∙ ap (at B) (omega arith)
+element-index H n e = past-range B 0 16 (32 + n) _ (omega arith) ∙ range-index H 32 8 n _ (ltb-true n 8 e)
 element-index W n e =
-    let h = ltb-true n 4 e in
-    rw (
-      le-ltb (48 + n) 16 (omega arith),
-      le-ltb (48 + n) 32 (omega arith),
-      le-ltb (48 + n) 40 (omega arith),
-      le-ltb (48 + n) 48 (omega arith),
-      lt-ltb (48 + n) 52 (omega arith),
-    ) (ap (at W) (omega arith))
+    past-range B 0 16 (48 + n) _ (omega arith)
+    ∙ past-range H 32 8 (48 + n) _ (omega arith)
+    ∙ range-index W 48 4 n _ (ltb-true n 4 e)
 element-index D n e =
-    let h = ltb-true n 2 e in
-    rw (
-      le-ltb (56 + n) 16 (omega arith),
-      le-ltb (56 + n) 32 (omega arith),
-      le-ltb (56 + n) 40 (omega arith),
-      le-ltb (56 + n) 48 (omega arith),
-      le-ltb (56 + n) 52 (omega arith),
-      le-ltb (56 + n) 56 (omega arith),
-      lt-ltb (56 + n) 58 (omega arith),
-    ) (ap (at D) (omega arith))
+    past-range B 0 16 (56 + n) _ (omega arith)
+    ∙ past-range H 32 8 (56 + n) _ (omega arith)
+    ∙ past-range W 48 4 (56 + n) _ (omega arith)
+    ∙ range-index D 56 2 n _ (ltb-true n 2 e)
 
 not-control : (df : Width) (n : ℕ) → ltb n (format.elements df) ≡ true → eqb (writing.elementCode df n) 62 ≡ false
 not-control B n e = let h = ltb-true n 16 e in ne-eqb n 62 (omega arith)
