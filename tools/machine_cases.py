@@ -1,9 +1,9 @@
 #!/usr/bin/env python3
-"""Writes crates/machine_test/stdin: the cases of shared/vectors/step.txt, run.txt, kernels/*.vec, corners-step.txt and
-corners-run.txt, whole; document 01's edges of a set-up; a step of each mnemonic and format of shared/vectors/ops.txt;
-and control blocks, those outside docs/LAYOUT.md among them.
+"""Writes crates/machine_test/stdin: the cases of step.txt, run.txt, kernels/*.vec, corners-step.txt and
+corners-run.txt, whole, each from the first folder that has it; document 01's edges of a set-up; a step of each mnemonic
+and format of ops.txt; and control blocks, those outside docs/LAYOUT.md among them.
 
-usage: tools/machine_cases.py VECTORS-DIR > crates/machine_test/stdin
+usage: tools/machine_cases.py VECTORS-DIR/after-1 VECTORS-DIR > crates/machine_test/stdin
 
 All numbers are little-endian. The cases follow each other, each begun by a byte 1:
 
@@ -33,6 +33,7 @@ import struct
 import sys
 
 GROUPS = ["step", "run", "kernels", "corners-step", "corners-run", "edges", "forms", "blocks"]
+RULES = "1 0 0"  # the requests that hold, as the r line of a case has them; they concern no word of a kernel
 KERNELS = ["beams", "correlate", "movavg", "peak", "threshold"]
 BLOCK = "<QQIHH"  # program counter, target, MSACSR, slot mark, MSA switch
 ADDV_W = 0x7842094E  # ADDV.W $w5,$w1,$w2
@@ -69,7 +70,7 @@ def parsed(path, group):
     for line in open(path):
         key, _, rest = line.rstrip("\n").partition(" ")
         if key == "end":
-            if fields["r"] == "0 0 0":
+            if fields["r"] == RULES or group == "kernels":
                 yield case_of(fields, group)
             fields = {}
         elif key != "#":
@@ -273,14 +274,18 @@ def record(c, kept):
     return out + b"".join(pieces(c[k], c[k.upper()]) for k in "vgcw"), now
 
 
+def newest(name):
+    """The files of that name in the first folder that has any."""
+    return next(filter(None, (sorted(glob.glob(os.path.join(folder, name))) for folder in sys.argv[1:])))
+
+
 def main():
-    folder = sys.argv[1]
     cases = []
     for group, name in zip(GROUPS, ["step.txt", "run.txt", "kernels/*.vec", "corners-step.txt", "corners-run.txt"]):
-        for path in sorted(glob.glob(os.path.join(folder, name))):
+        for path in newest(name):
             cases += parsed(path, group)
     cases += edges()
-    cases += forms(os.path.join(folder, "ops.txt"))
+    cases += forms(*newest("ops.txt"))
     cases += blocks(cases)
     kept = [bytes(n) for n in (80, 513, 264, 280)]
     for c in cases:

@@ -1,11 +1,13 @@
 pub mod Addresses
 pub mod Answers
+pub mod ByZero
 pub mod CsrBits
 pub mod Demand1
 pub mod Demand2
 pub mod Demand3
 pub mod GoesOn
 pub mod Kept
+pub mod Lanes
 pub mod Limits
 pub mod Little
 pub mod OneAnswer

@@ -21,11 +21,11 @@ use Rattle.products.specs.Halves as halves
 module _ (n s t : ℕ) where
   quotient-below : (g : Reading) → products.quotient g n s t < 2 ^ n
   unfolding products.quotient
-  quotient-below g = cond-below (eqb t 0) (pow-pos n) (wrap-below n _)
+  quotient-below g = cond-below (eqb t 0) (wrap-below n _) (wrap-below n _)
 
   remainder-below : (g : Reading) → products.remainder g n s t < 2 ^ n
   unfolding products.remainder
-  remainder-below g = cond-below (eqb t 0) (pow-pos n) (wrap-below n _)
+  remainder-below g = cond-below (eqb t 0) (wrap-below n _) (wrap-below n _)
 
   pub product-below : (d : ℕ) (o : Product) → productOf o n d s t < 2 ^ n
   unfolding products.mulv products.maddv products.msubv

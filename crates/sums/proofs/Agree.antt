@@ -21,7 +21,7 @@ use Rattle.reading.specs.Reading.{placeOf, readOf}
 use Rattle.state.specs.Machine.{Env}
 use Rattle.vectors.specs.Register.{element, build, whole}
 use Rattle.writing.specs.Writing.{writeOf}
-use Rattle.sums.specs.Sums.{Agree, names, sums}
+use Rattle.sums.specs.Sums.{Agree, names, zeros, sums}
 
 -- −2 as a number of 64 bits
 minus-two : wrap 64 (signed 16 0xFFFE) ≡ 2 ^ 64 - 2
@@ -40,6 +40,10 @@ all-bytes x = omega arith
 pub names-agree : Agree names
 unfolding rowAt
 names-agree = (refl, (refl, (refl, (refl, tt))))
+
+pub zeros-agree : Agree zeros
+unfolding signed wrap quotient remainder eachLane build element
+zeros-agree = (refl, (refl, (refl, (refl, (refl, (refl, (refl, (refl, (refl, (refl, (refl, (refl, tt))))))))))))
 
 pub all-agree : (e : Env) (v g w : List ℕ) (a ws wt : ℕ) → Agree (sums e v g w a ws wt)
 unfolding writeOf readOf placeOf rowAt zeroAt scaledAt signed magnitude wrap clamp sat addA addsA asub subsuuS average

@@ -1,5 +1,5 @@
 -- Document 01's sums marked P, in its order, one list: what the definitions give of an instruction, and what the paper
--- says.
+-- says; and request 1/12's, of division by 0.
 use mathlib.Core.Path.{_≡_}
 use mathlib.Core.Bool.{true}
 use mathlib.Core.List.{List, [], _∷_, _++_}
@@ -15,7 +15,8 @@ use Rattle.isa.specs.declared.Greg.{Greg}
 use Rattle.isa.specs.declared.Instr.{Instr}
 use Rattle.isa.specs.declared.Instr.the-variants as instr
 use Rattle.isa.specs.declared.Op.{Op}
-use Rattle.isa.specs.declared.Product.the-variants.{DivS, ModS}
+use Rattle.isa.specs.declared.Product.{Product}
+use Rattle.isa.specs.declared.Product.the-variants.{DivS, DivU, ModS, ModU}
 use Rattle.isa.specs.declared.Read.the-variants as read
 use Rattle.isa.specs.declared.Subtraction.the-variants.{SubsuuS, AsubS}
 use Rattle.isa.specs.declared.Three.the-variants as three
@@ -106,6 +107,26 @@ byte o s t = threeOf (three.Arith o) 8 0 (bytes s) (bytes t)
 
 abbrev half : Arith → ℕ → ℕ → ℕ
 half o s t = threeOf (three.Arith o) 16 0 (halves s) (halves t)
+
+-- of bytes s by 00
+abbrev byZero : Product → ℕ → ℕ → Sum
+byZero o s r = sum (byte (arith.Product o) s 0x00) (bytes r)
+
+abbrev pub zeros : List Sum
+zeros =
+    byZero DivS 0x80 0x01
+    ∷ byZero DivS 0x7F 0xFF
+    ∷ byZero DivS 0x00 0xFF
+    ∷ byZero DivU 0x80 0xFF
+    ∷ byZero DivU 0x7F 0xFF
+    ∷ byZero DivU 0x00 0xFF
+    ∷ byZero ModS 0x80 0x80
+    ∷ byZero ModS 0x7F 0x7F
+    ∷ byZero ModS 0x00 0x00
+    ∷ byZero ModU 0x80 0x80
+    ∷ byZero ModU 0x7F 0x7F
+    ∷ byZero ModU 0x00 0x00
+    ∷ []
 
 -- e is any set-up, v, g and w are any registers and work window, a is any address, ws and wt are any registers
 abbrev pub sums : Env → List ℕ → List ℕ → List ℕ → ℕ → ℕ → ℕ → List Sum
