@@ -49,8 +49,8 @@ module _ (p : List ℕ) (e : Env) (m : Machine) (w : ℕ) (k : Op) (df : Width) 
     (there : fetched p (e .bases .program) (m .ctl .pc) ≡ Word w)
     (reads : readOf w ≡ read.Instr (instr.Three k df wd ws wt))
     (done : stepOf p e m .outcome ≡ Finished) where
-  abbrev three-it : Instr
-  three-it = instr.Three k df wd ws wt
+  abbrev instruction : Instr
+  instruction = instr.Three k df wd ws wt
 
   abbrev old : Vreg → ℕ
   old r = registerAt (m .vec) r
@@ -58,7 +58,7 @@ module _ (p : List ℕ) (e : Env) (m : Machine) (w : ℕ) (k : Op) (df : Width) 
   abbrev made : ℕ
   made = threeOf (threeAt (k .0)) (bits df) (old wd) (old ws) (old wt)
 
-  step-is : stepOf p e m ≡ concluded (e .bases .work) (planOf e m three-it) m
+  step-is : stepOf p e m ≡ concluded (e .bases .work) (planOf e m instruction) m
   unfolding stepOf
   step-is = rw (there, reads)
 
@@ -66,14 +66,14 @@ module _ (p : List ℕ) (e : Env) (m : Machine) (w : ℕ) (k : Op) (df : Width) 
   meant =
       record {
         word = w;
-        instruction = three-it;
+        instruction = instruction;
         there = there;
         reads = reads;
         finishes = sym (ap (λ (r : Result). r .outcome) step-is) ∙ done;
         after = ap (λ (r : Result). r .after) step-is;
       }
 
-  planned : planOf e m three-it ≡ writes wd made
+  planned : planOf e m instruction ≡ writes wd made
   unfolding planOf
   planned = by-switch wd made (m .ctl .on) (meant .finishes)
 

@@ -22,7 +22,7 @@ use Rattle.vectors.specs.Register.{element}
 use Rattle.machine.specs.declared.step.Outcome.the-variants.{Finished}
 use Rattle.machine.specs.Step.{stepOf}
 
--- Table 3.18 of the manual, minor opcode 010010
+-- Table 3.25 of the manual: bits 25..23 under the minor opcode 010010
 abbrev pub placeIn : Division → ℕ
 placeIn div-s = place.minor 18 4
 placeIn div-u = place.minor 18 5
