@@ -1,7 +1,8 @@
 #!/usr/bin/env python3
 """Writes crates/ops_test/stdin: the cases of each FILE (lines of the form of shared/vectors/ops.txt), a part a file.
 
-usage: tools/ops_cases.py crates/ops_test/stdin VECTORS-DIR/ops.txt VECTORS-DIR/corners-ops.txt tools/examples.txt
+usage: tools/ops_cases.py crates/ops_test/stdin VECTORS-DIR/after-1/ops.txt VECTORS-DIR/after-1/corners-ops.txt
+           tools/examples.txt
 
 A part: the number of its cases, 8 bytes, and the cases, 100 bytes each, little-endian:
 

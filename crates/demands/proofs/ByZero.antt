@@ -11,20 +11,20 @@ use Rattle.ops.specs.Meaning.{threeAt}
 use Rattle.products.specs.ByZero.{Division, div-s, div-u, mod-s, mod-u, productIn}
 use Rattle.products.proofs.ByZero.{divides}
 use Rattle.vectors.proofs.ElementLaws.{element-below}
-use Rattle.demands.specs.ByZero.{placeIn, lane, DividesLanes}
+use Rattle.demands.specs.ByZero.{placeIn, laneAt, DividesLanes}
 use Rattle.demands.proofs.Lanes.{lane-after}
 
-meant : (o : Division) → threeAt (placeIn o) ≡ three.Arith (arith.Product (productIn o))
+table-line : (o : Division) → threeAt (placeIn o) ≡ three.Arith (arith.Product (productIn o))
 unfolding threeAt
-meant div-s = refl
-meant div-u = refl
-meant mod-s = refl
-meant mod-u = refl
+table-line div-s = refl
+table-line div-u = refl
+table-line mod-s = refl
+table-line mod-u = refl
 
 pub divides-lanes : DividesLanes
 divides-lanes o df wd ws wt p e m w ok there reads done i h =
     let z = size df in
     let op : Op = record { 0 = placeIn o } in
-    rw (lane-after p e m w op df wd ws wt ok there reads done (arith.Product (productIn o)) (meant o) i h)
-    (divides o (bits df) (z .any) (z .few) (lane df (m .vec) wd i) (lane df (m .vec) ws i) (lane df (m .vec) wt i)
+    rw (lane-after p e m w op df wd ws wt ok there reads done (arith.Product (productIn o)) (table-line o) i h)
+    (divides o (bits df) (z .any) (z .few) (laneAt df (m .vec) wd i) (laneAt df (m .vec) ws i) (laneAt df (m .vec) wt i)
     (element-below (bits df) (registerAt (m .vec) ws) i))

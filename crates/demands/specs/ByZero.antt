@@ -33,8 +33,8 @@ abbrev pub dividing : Division → Width → Vreg → Vreg → Vreg → Instr
 dividing o df wd ws wt = instr.Three (record { 0 = placeIn o }) df wd ws wt
 
 -- element i of a register
-abbrev pub lane : Width → List ℕ → Vreg → ℕ → ℕ
-lane df file r i = element (bits df) (registerAt file r) i
+abbrev pub laneAt : Width → List ℕ → Vreg → ℕ → ℕ
+laneAt df file r i = element (bits df) (registerAt file r) i
 
 abbrev pub DividesLanes : Type 0
 DividesLanes =
@@ -45,4 +45,5 @@ DividesLanes =
     → stepOf p e m .outcome ≡ Finished
     → (i : ℕ)
     → i < 128 / bits df
-    → Divided o (bits df) (lane df (m .vec) ws i) (lane df (m .vec) wt i) (lane df (stepOf p e m .after .vec) wd i)
+    → Divided o (bits df) (laneAt df (m .vec) ws i) (laneAt df (m .vec) wt i)
+    (laneAt df (stepOf p e m .after .vec) wd i)

@@ -109,23 +109,23 @@ abbrev half : Arith → ℕ → ℕ → ℕ
 half o s t = threeOf (three.Arith o) 16 0 (halves s) (halves t)
 
 -- of bytes s by 00
-abbrev byZero : Product → ℕ → ℕ → Sum
-byZero o s r = sum (byte (arith.Product o) s 0x00) (bytes r)
+abbrev byteByZero : Product → ℕ → ℕ → Sum
+byteByZero o s r = sum (byte (arith.Product o) s 0x00) (bytes r)
 
 abbrev pub zeros : List Sum
 zeros =
-    byZero DivS 0x80 0x01
-    ∷ byZero DivS 0x7F 0xFF
-    ∷ byZero DivS 0x00 0xFF
-    ∷ byZero DivU 0x80 0xFF
-    ∷ byZero DivU 0x7F 0xFF
-    ∷ byZero DivU 0x00 0xFF
-    ∷ byZero ModS 0x80 0x80
-    ∷ byZero ModS 0x7F 0x7F
-    ∷ byZero ModS 0x00 0x00
-    ∷ byZero ModU 0x80 0x80
-    ∷ byZero ModU 0x7F 0x7F
-    ∷ byZero ModU 0x00 0x00
+    byteByZero DivS 0x80 0x01
+    ∷ byteByZero DivS 0x7F 0xFF
+    ∷ byteByZero DivS 0x00 0xFF
+    ∷ byteByZero DivU 0x80 0xFF
+    ∷ byteByZero DivU 0x7F 0xFF
+    ∷ byteByZero DivU 0x00 0xFF
+    ∷ byteByZero ModS 0x80 0x80
+    ∷ byteByZero ModS 0x7F 0x7F
+    ∷ byteByZero ModS 0x00 0x00
+    ∷ byteByZero ModU 0x80 0x80
+    ∷ byteByZero ModU 0x7F 0x7F
+    ∷ byteByZero ModU 0x00 0x00
     ∷ []
 
 -- e is any set-up, v, g and w are any registers and work window, a is any address, ws and wt are any registers
