@@ -48,7 +48,7 @@ static const char *name(uint32_t reason) {
     case MSA_OTHER_WORD: return "other word";
     case MSA_BRANCH_IN_SLOT: return "branch in a slot";
     case MSA_SWITCHED_OFF: return "MSA switched off";
-    case MSA_NO_WINDOW: return "address in no window";
+    case MSA_NO_WINDOW: return "missing byte";
     case MSA_READ_ONLY: return "store into the table";
     case MSA_TRAP: return "float trap armed";
     case MSA_SPENT: return "budget spent";
@@ -114,11 +114,12 @@ static int sound(uint16_t number, const uint8_t samples[SAMPLES], uint32_t budge
     put(control + MSA_CONTROL_PC, 8, 0);
     put(control + MSA_CONTROL_SWITCH, 2, MSA_SWITCH_ON);
 
-    uint64_t answer = msa_run(program, program_bytes, 0, table, sizeof table, TABLE, vectors, sizeof vectors,
-                              generals, sizeof generals, work, sizeof work, WORK, control, sizeof control, budget);
-    if (msa_reason(answer) != MSA_NO_WORD) {
-        printf("ping %u: no sounding (%" PRIu32 ", %s, after %" PRIu32 " instructions)\n", number, msa_reason(answer),
-               name(msa_reason(answer)), msa_count(answer));
+    struct msa_ended end = msa_run(program, program_bytes, 0, table, sizeof table, TABLE, vectors, sizeof vectors,
+                                   generals, sizeof generals, work, sizeof work, WORK, control, sizeof control, budget);
+    if (end.reason != MSA_NO_WORD) {
+        printf("ping %u: no sounding (%" PRIu32 ", %s", number, end.reason, name(end.reason));
+        if (end.reason == MSA_NO_WINDOW) printf(" at 0x%" PRIX64, end.missing);
+        printf(", after %" PRIu32 " instructions)\n", end.count);
         return 0;
     }
     for (int i = 2; i < CELL; i += 2)

@@ -36,7 +36,7 @@ static int bench(const char *name, unsigned times, double *spent, double *finish
     if (size < 48) return 0;
     uint64_t program_base = number(file, 8), table_base = number(file + 8, 8), work_base = number(file + 16, 8);
     uint32_t budget = (uint32_t)number(file + 24, 4), count = (uint32_t)number(file + 32, 4);
-    uint64_t want = number(file + 28, 4) + ((uint64_t)count << 32);
+    uint32_t reason = (uint32_t)number(file + 28, 4);
     size_t words = number(file + 36, 4), constants = number(file + 40, 4), window = number(file + 44, 4);
     size_t lent = REGISTERS + window + MSA_CONTROL_BYTES;
     if (size != 48 + words + constants + 2 * lent) return 0;
@@ -49,11 +49,11 @@ static int bench(const char *name, unsigned times, double *spent, double *finish
     for (unsigned i = 0; i < times; i++) {
         memcpy(now, before, lent);
         double start = seconds();
-        uint64_t answer = msa_run(program, words, program_base, table, constants, table_base,
-                                  vectors, MSA_VECTORS_BYTES, generals, MSA_GENERALS_BYTES,
-                                  work, window, work_base, control, MSA_CONTROL_BYTES, budget);
+        struct msa_ended end = msa_run(program, words, program_base, table, constants, table_base,
+                                       vectors, MSA_VECTORS_BYTES, generals, MSA_GENERALS_BYTES,
+                                       work, window, work_base, control, MSA_CONTROL_BYTES, budget);
         time += seconds() - start;
-        right &= answer == want && memcmp(now, after, lent) == 0;
+        right &= end.reason == reason && end.count == count && memcmp(now, after, lent) == 0;
     }
     free(now);
     const char *slash = strrchr(name, '/');

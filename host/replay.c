@@ -1,6 +1,6 @@
 /* Replays the shared cases of steps and runs (vectors/FORMAT.md) through the C entry
- * and compares the answer, the count and every lent byte; then the control block's
- * own limits. Usage: replay FILE.. ; ends with status 1 where anything differs.
+ * and compares the reason, the count, the missing address and every lent byte; then the
+ * control block's own limits. Usage: replay FILE.. ; ends with status 1 where anything differs.
  *
  * Each case is run in up to three ways: as it stands; with a target that a mark other than 2
  * must leave unread; a step also as a run of budget 1; a run also step by step.
@@ -88,31 +88,31 @@ struct test {
     int run;
     struct bytes program, table;
     uint64_t program_base, table_base, work_base;
-    uint32_t budget, reason, count;
+    uint32_t budget;
+    struct msa_ended answer; /* of a step the count is 0 */
     struct lent before, after;
 };
 
-static uint64_t step(const struct test *t, struct lent *l) {
-    return msa_step(t->program.at, t->program.n, t->program_base, t->table.at, t->table.n, t->table_base,
-                    l->vectors.at, l->vectors.n, l->generals.at, l->generals.n, l->work.at, l->work.n, t->work_base,
-                    l->control.at, l->control.n);
+static struct msa_ended step(const struct test *t, struct lent *l) {
+    struct msa_stepped s = msa_step(t->program.at, t->program.n, t->program_base, t->table.at, t->table.n, t->table_base,
+                                    l->vectors.at, l->vectors.n, l->generals.at, l->generals.n, l->work.at, l->work.n,
+                                    t->work_base, l->control.at, l->control.n);
+    return (struct msa_ended){s.reason > UINT32_MAX ? UINT32_MAX : (uint32_t)s.reason, 0, s.missing};
 }
 
-static uint64_t run(const struct test *t, struct lent *l, uint32_t budget) {
+static struct msa_ended run(const struct test *t, struct lent *l, uint32_t budget) {
     return msa_run(t->program.at, t->program.n, t->program_base, t->table.at, t->table.n, t->table_base,
                    l->vectors.at, l->vectors.n, l->generals.at, l->generals.n, l->work.at, l->work.n, t->work_base,
                    l->control.at, l->control.n, budget);
 }
 
-static uint64_t answer(uint32_t reason, uint32_t count) { return reason + ((uint64_t)count << 32); }
-
 /* the run's answer by steps alone */
-static uint64_t steps(const struct test *t, struct lent *l) {
+static struct msa_ended steps(const struct test *t, struct lent *l) {
     for (uint32_t count = 0; count < t->budget; count++) {
-        uint64_t n = step(t, l);
-        if (n) return answer((uint32_t)n, count);
+        struct msa_ended s = step(t, l);
+        if (s.reason) return (struct msa_ended){s.reason, count, s.missing};
     }
-    return answer(MSA_SPENT, t->budget);
+    return (struct msa_ended){MSA_SPENT, t->budget, 0};
 }
 
 static unsigned differences;
@@ -120,25 +120,27 @@ static unsigned differences;
 /* one way of a case: how is 's' step, 'r' run, '1' the step as a run of 1, 'n' the run by steps */
 static int agrees(const struct test *t, char how, struct bytes control, struct bytes control_after) {
     struct lent l = {copy(t->before.vectors), copy(t->before.generals), copy(t->before.work), copy(control)};
-    uint64_t want = t->run ? answer(t->reason, t->count) : t->reason;
-    uint64_t got;
+    struct msa_ended want = t->answer, got;
     switch (how) {
     case 's': got = step(t, &l); break;
     case 'r': got = run(t, &l, t->budget); break;
     case '1':
         got = run(t, &l, 1);
-        want = t->reason ? answer(t->reason, 0) : answer(MSA_SPENT, 1);
+        if (want.reason == MSA_FINISHED) want = (struct msa_ended){MSA_SPENT, 1, 0};
         break;
     default: got = steps(t, &l);
     }
-    const char *part = got != want ? "answer"
+    const char *part = got.reason != want.reason ? "reason"
+                       : got.count != want.count ? "count"
+                       : got.missing != want.missing ? "missing address"
                        : !same(l.vectors, t->after.vectors) ? "vectors"
                        : !same(l.generals, t->after.generals) ? "generals"
                        : !same(l.work, t->after.work) ? "work"
                        : !same(l.control, control_after) ? "control" : NULL;
     if (part) {
         differences++;
-        printf("%s (%c): %s; answer %" PRIx64 ", expected %" PRIx64 "\n", t->name, how, part, got, want);
+        printf("%s (%c): %s; answer %" PRIu32 " %" PRIu32 " %" PRIX64 ", expected %" PRIu32 " %" PRIu32 " %" PRIX64 "\n",
+               t->name, how, part, got.reason, got.count, got.missing, want.reason, want.count, want.missing);
     }
     free(l.vectors.at);
     free(l.generals.at);
@@ -150,10 +152,10 @@ static int agrees(const struct test *t, char how, struct bytes control, struct b
 static int check(const struct test *t) {
     int fine = agrees(t, t->run ? 'r' : 's', t->before.control, t->after.control);
     if (!t->run) fine &= agrees(t, '1', t->before.control, t->after.control);
-    else if (t->budget != 0 && t->count < 100000) fine &= agrees(t, 'n', t->before.control, t->after.control);
+    else if (t->budget != 0 && t->answer.count < 100000) fine &= agrees(t, 'n', t->before.control, t->after.control);
     if (t->before.control.at[MSA_CONTROL_MARK] != MSA_MARK_TAKEN) {
         /* a target that is no multiple of 4 stays unread; it is kept where nothing was finished, else 0 is written */
-        int finished = t->run ? t->count != 0 : t->reason == MSA_FINISHED;
+        int finished = t->run ? t->answer.count != 0 : t->answer.reason == MSA_FINISHED;
         struct bytes odd = copy(t->before.control), odd_after;
         put(odd.at + MSA_CONTROL_TARGET, 8, 0xFEDCBA9876543211);
         odd_after = copy(finished ? t->after.control : odd);
@@ -196,7 +198,8 @@ static void replay(const char *name) {
         case 'w': t.work_base = strtoull(s, &s, 16); t.before.work = hex(s + 1); break;
         case 'c': t.before.control = block_of(s); break;
         case 'b': t.budget = (uint32_t)strtoul(s, NULL, 10); break;
-        case '=': t.reason = (uint32_t)strtoul(s, &s, 10); t.count = (uint32_t)strtoul(s, NULL, 10); break;
+        case '=': t.answer.reason = (uint32_t)strtoul(s, &s, 10); t.answer.count = (uint32_t)strtoul(s, NULL, 10); break;
+        case 'a': t.answer.missing = strtoull(s, NULL, 16); break;
         case 'V': t.after.vectors = *s == '=' ? t.before.vectors : hex(s); break;
         case 'G': t.after.generals = *s == '=' ? t.before.generals : hex(s); break;
         case 'W': t.after.work = *s == '=' ? t.before.work : hex(s); break;
@@ -211,7 +214,7 @@ static void replay(const char *name) {
 /* one control block on a set-up that is good but for it: a one-word program, ADDV.W $w5,$w1,$w2 */
 static int block_answers(struct bytes control, uint32_t reason) {
     static uint8_t program[4] = {0x4E, 0x09, 0x42, 0x78};
-    struct test t = {.name = "block", .program = {program, 4}, .table = lend(0), .program_base = 0x1000, .reason = reason};
+    struct test t = {.name = "block", .program = {program, 4}, .table = lend(0), .program_base = 0x1000, .answer = {reason, 0, 0}};
     t.before.vectors = lend(512);
     t.before.generals = lend(256);
     t.before.work = lend(16);
@@ -234,20 +237,20 @@ static int block_answers(struct bytes control, uint32_t reason) {
         /* the limits 1 to 4 come first */
         struct test u = t;
         u.after.vectors = u.before.vectors = lend(511);
-        u.reason = 1;
+        u.answer.reason = 1;
         fine &= agrees(&u, 's', control, after) & agrees(&u, '1', control, after);
         u = t;
         u.after.vectors = t.before.vectors;
         u.program_base = 0x1002;
-        u.reason = 2;
+        u.answer.reason = 2;
         fine &= agrees(&u, 's', control, after) & agrees(&u, '1', control, after);
         u.program_base = 0x1000;
         u.work_base = UINT64_MAX;
-        u.reason = 3;
+        u.answer.reason = 3;
         fine &= agrees(&u, 's', control, after) & agrees(&u, '1', control, after);
         u.table = lend(16);
         u.work_base = u.table_base = 0x2000;
-        u.reason = 4;
+        u.answer.reason = 4;
         fine &= agrees(&u, 's', control, after) & agrees(&u, '1', control, after);
     }
     return fine;

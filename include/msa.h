@@ -56,32 +56,49 @@ enum msa_answer {
     MSA_OTHER_WORD = 14, /* another word, and not LSA, DLSA, BZ or BNZ */
     MSA_BRANCH_IN_SLOT = 15, /* a branch whose slot mark is set */
     MSA_SWITCHED_OFF = 16, /* the MSA switch is off */
-    MSA_NO_WINDOW = 17, /* load or store whose sixteen bytes lie in no single window */
+    MSA_NO_WINDOW = 17, /* load or store whose sixteen bytes lie in no single window; `missing` names one of them */
     MSA_READ_ONLY = 18, /* store wholly inside the table */
     MSA_TRAP = 19, /* CTCMSA that arms a float trap */
     MSA_SPENT = 20 /* a run only, and there before 11 to 19: the count equals the budget */
 };
 
-/* One step. Answers MSA_FINISHED, or why the instruction was not finished; then no byte is changed. */
-uint64_t msa_step(const uint8_t *program, size_t program_bytes, uint64_t program_base,
-                  const uint8_t *table, size_t table_bytes, uint64_t table_base,
-                  uint8_t *vectors, size_t vectors_bytes,
-                  uint8_t *generals, size_t generals_bytes,
-                  uint8_t *work, size_t work_bytes, uint64_t work_base,
-                  uint8_t *control, size_t control_bytes);
+/* Read `reason` first. With MSA_NO_WINDOW `missing` is the first of the sixteen addresses,
+ * counted upward modulo 2^64, that does not lie in the window holding the first byte, or
+ * the first address itself if no window holds it; it may be 0, past a window that ends at
+ * 2^64. With every other reason `missing` is 0.
+ *
+ * C code compiled against the header in which both functions answered a uint64_t keeps
+ * working: on x86-64 (System V) a struct of 16 bytes comes back in the registers rax and
+ * rdx, the arguments stand where they stood, and rax is what it was, the reason of a step,
+ * reason + 2^32 * count of a run. Such code does not look at rdx, where `missing` is.
+ */
+struct msa_stepped {
+    uint64_t reason; /* of enum msa_answer */
+    uint64_t missing;
+};
 
-/* One run of at most budget instructions. Answers reason + 2^32 * count; with count 0 no byte is changed. */
-uint64_t msa_run(const uint8_t *program, size_t program_bytes, uint64_t program_base,
-                 const uint8_t *table, size_t table_bytes, uint64_t table_base,
-                 uint8_t *vectors, size_t vectors_bytes,
-                 uint8_t *generals, size_t generals_bytes,
-                 uint8_t *work, size_t work_bytes, uint64_t work_base,
-                 uint8_t *control, size_t control_bytes,
-                 uint32_t budget);
+struct msa_ended {
+    uint32_t reason; /* of enum msa_answer */
+    uint32_t count; /* of finished instructions */
+    uint64_t missing;
+};
 
-/* the two parts of a run's answer */
-static inline uint32_t msa_reason(uint64_t answer) { return (uint32_t)answer; }
-static inline uint32_t msa_count(uint64_t answer) { return (uint32_t)(answer >> 32); }
+/* One step. Its reason is MSA_FINISHED, or why the instruction was not finished; then no byte is changed. */
+struct msa_stepped msa_step(const uint8_t *program, size_t program_bytes, uint64_t program_base,
+                            const uint8_t *table, size_t table_bytes, uint64_t table_base,
+                            uint8_t *vectors, size_t vectors_bytes,
+                            uint8_t *generals, size_t generals_bytes,
+                            uint8_t *work, size_t work_bytes, uint64_t work_base,
+                            uint8_t *control, size_t control_bytes);
+
+/* One run of at most budget instructions; with count 0 no byte is changed. */
+struct msa_ended msa_run(const uint8_t *program, size_t program_bytes, uint64_t program_base,
+                         const uint8_t *table, size_t table_bytes, uint64_t table_base,
+                         uint8_t *vectors, size_t vectors_bytes,
+                         uint8_t *generals, size_t generals_bytes,
+                         uint8_t *work, size_t work_bytes, uint64_t work_base,
+                         uint8_t *control, size_t control_bytes,
+                         uint32_t budget);
 
 #ifdef __cplusplus
 }

@@ -1,13 +1,14 @@
 #!/usr/bin/env python3
 """Writes crates/machine_test/stdin: the cases of step.txt, run.txt, kernels/*.vec, corners-step.txt and
-corners-run.txt, whole, each from the first folder that has it; document 01's edges of a set-up; a step of each mnemonic
-and format of ops.txt; and control blocks, those outside docs/LAYOUT.md among them.
+corners-run.txt, whole, each from the first folder that has it; document 01's edges of a set-up, and accesses about the
+ends of two windows, which 17 names an address of; a step of each mnemonic and format of ops.txt; and control blocks,
+those outside docs/LAYOUT.md among them.
 
 usage: tools/machine_cases.py VECTORS-DIR/after-1 VECTORS-DIR > crates/machine_test/stdin
 
 All numbers are little-endian. The cases follow each other, each begun by a byte 1:
 
-the head (80 bytes), the vector registers (513), the general registers (264) and the control block (280) before: kept
+the head (84 bytes), the vector registers (513), the general registers (264) and the control block (280) before: kept
     from case to case (zeros at first), and pieces each say what changes
 the contents before of program, table and work window: pieces each, put into windows that were filled with the pattern
     of the head
@@ -21,11 +22,12 @@ The head, by the place of each:
 1           entry: 0 msa_step, 1 msa_run
 2           number of the case in its group (2 bytes)
 4           budget (4)
-8           answer: the reason, and of a run 2^32 times the count (8)
-16, 24, 32  bases of program, table, work window (8 each)
-40 to 60    lengths of vector registers, general registers, control block, program, table, work window (4 each)
-64, 68, 72  patterns of program, table, work window (4 each)
-76          zeros (4)
+8           the reason (4)
+12          the count of a run (4)
+16          the address that is missing (8)
+24, 32, 40  bases of program, table, work window (8 each)
+48 to 68    lengths of vector registers, general registers, control block, program, table, work window (4 each)
+72, 76, 80  patterns of program, table, work window (4 each)
 """
 import glob
 import os
@@ -37,7 +39,7 @@ RULES = "1 0 0"  # the requests that hold, as the r line of a case has them; the
 KERNELS = ["beams", "correlate", "movavg", "peak", "threshold"]
 BLOCK = "<QQIHH"  # program counter, target, MSACSR, slot mark, MSA switch
 ADDV_W = 0x7842094E  # ADDV.W $w5,$w1,$w2
-LD_B = 0x78000960  # LD.B $w5,0($1)
+LD_B, ST_B = 0x78000960, 0x78000964  # LD.B $w5,0($1), ST.B $w5,0($1)
 ODD = 0xFEDCBA9876543211  # a target that no set-up accepts of a taken mark
 
 
@@ -89,13 +91,13 @@ def case_of(f, group):
     number = name.partition("-")[2]
     c["number"] = KERNELS.index(number) + 1 if group == "kernels" else int(number)
     c["budget"] = int(f.get("b", "0"))
-    c["reason"], c["count"] = int(reason), 0 if count == "-" else int(count)
+    c["reason"], c["count"], c["missing"] = int(reason), 0 if count == "-" else int(count), int(f["a"], 16)
     return c
 
 
 def edge(number, entry, reason, **given):
     c = {
-        "group": "edges", "number": number, "entry": entry, "reason": reason, "count": 0, "budget": 0,
+        "group": "edges", "number": number, "entry": entry, "reason": reason, "count": 0, "missing": 0, "budget": 0,
         "v": bytes((7 * i) % 256 for i in range(512)), "g": bytes(256), "p": struct.pack("<I", ADDV_W), "t": b"", "w": bytes(range(16)),
         "pb": 0, "tb": 0, "wb": 1000, "c": laid(),
     }  # fmt: skip
@@ -110,11 +112,16 @@ def added(v):
     return v[:80] + struct.pack("<4I", *((a + b) % 2**32 for a, b in zip(*words))) + v[96:]
 
 
+def general_1(x):
+    """General registers of which $1 is x and the others are zero."""
+    return bytes(8) + struct.pack("<Q", x) + bytes(240)
+
+
 def edges():
     """Document 01, "Sums to check against": the set-up, the loads about a window of 16 bytes, and the budgets of a one-word program."""
     v = edge(0, "step", 0)["v"]
     done = {"V": added(v), "C": laid(4)}
-    n = iter(range(1, 100))
+    n = iter(range(1, 1000))
     for entry in ("step", "run"):
         ran = {"step": {"reason": 0}, "run": {"reason": 20, "count": 1, "budget": 1}}[entry]
         yield edge(next(n), entry, **ran, **done)
@@ -125,15 +132,33 @@ def edges():
         yield edge(next(n), entry, **ran, V=done["V"], c=laid(csr=0x0107FFFF), C=laid(4, csr=0x0107FFFF))
         yield edge(next(n), entry, 5, c=laid(csr=0x00080000), budget=1)
         for at in (999, 1000, 1001):
-            g = bytes(8) + struct.pack("<Q", at) + bytes(240)
-            load = {"g": g, "p": struct.pack("<I", LD_B)}
+            load = {"g": general_1(at), "p": struct.pack("<I", LD_B)}
             if at == 1000:
                 yield edge(next(n), entry, **ran, **load, V=v[:80] + bytes(range(16)) + v[96:], C=done["C"])
             else:
-                yield edge(next(n), entry, 17, **load, budget=1)
+                yield edge(next(n), entry, 17, **load, budget=1, missing=999 if at == 999 else 1016)
     yield edge(next(n), "run", 20)
     yield edge(next(n), "run", 20, budget=1, count=1, **done)
     yield edge(next(n), "run", 11, budget=2, count=1, **done)
+    for k, (reason, missing, given) in enumerate(stopped_accesses()):
+        yield edge(next(n), ("step", "run")[k % 2], reason, missing=missing, budget=1, **given)
+
+
+def stopped_accesses():
+    """A load and a store at every address from which sixteen bytes pass an end of the table or of the work window, each
+    of 16 bytes, and the store into the table: windows that touch, windows at the two ends of memory."""
+    for table, work in ((0x1000, 0x1010), (2**64 - 16, 0), (0, 2**64 - 16)):
+        windows = [{(base + k) % 2**64 for k in range(16)} for base in (table, work)]
+        for at in sorted({(base + k) % 2**64 for base in (table, work) for k in range(-15, 16)}):
+            addresses = [(at + k) % 2**64 for k in range(16)]
+            whole = [w.issuperset(addresses) for w in windows]
+            holding = next((w for w in windows if at in w), {})
+            for word in (LD_B, ST_B):
+                given = {"tb": table, "t": bytes(16), "wb": work, "p": struct.pack("<I", word), "g": general_1(at)}
+                if not any(whole):
+                    yield 17, at if not holding else next(x for x in addresses if x not in holding), given
+                elif word == ST_B and whole[0]:
+                    yield 18, 0, given
 
 
 def common(n, seed):
@@ -258,11 +283,11 @@ def filled(b):
 
 
 def head(c):
-    answer = c["reason"] + 2**32 * c["count"]
-    h = struct.pack("<BBHIQ", GROUPS.index(c["group"]), c["entry"] == "run", c["number"], c["budget"], answer)
+    h = struct.pack("<BBHI", GROUPS.index(c["group"]), c["entry"] == "run", c["number"], c["budget"])
+    h += struct.pack("<IIQ", c["reason"], c["count"], c["missing"])
     h += struct.pack("<QQQ", c["pb"], c["tb"], c["wb"])
     h += struct.pack("<6I", *(len(c[k]) for k in "vgcptw")) + b"".join(pattern(c[k]) for k in "ptw")
-    return h + bytes(80 - len(h))
+    return h
 
 
 def record(c, kept):
@@ -287,7 +312,7 @@ def main():
     cases += edges()
     cases += forms(*newest("ops.txt"))
     cases += blocks(cases)
-    kept = [bytes(n) for n in (80, 513, 264, 280)]
+    kept = [bytes(n) for n in (84, 513, 264, 280)]
     for c in cases:
         text, kept = record(c, kept)
         sys.stdout.buffer.write(text)

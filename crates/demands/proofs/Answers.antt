@@ -4,15 +4,15 @@ use mathlib.Core.Path.{_≡_, refl, sym, ap, _∙_, subst}
 use mathlib.Core.List.{List, _∷_, _++_}
 use Prim.Native.Nat.{ℕ, _<_}
 use native.Mathlib.Omega.{arith}
-use Rattle.isa.specs.declared.Refusal.{Refusal}
-use Rattle.isa.specs.declared.Refusal.the-variants as refusal
-use Rattle.isa.specs.declared.Stop.{Stop}
-use Rattle.isa.specs.declared.Stop.the-variants as stop
 use Rattle.isa.specs.declared.Unread.the-variants.{Unassigned, LeftOut, Other}
-use Rattle.isa.specs.Numbers.{refusalNumber, stopNumber}
+use Rattle.state.specs.declared.setup.Refusal.{Refusal}
+use Rattle.state.specs.declared.setup.Refusal.the-variants as refusal
 use Rattle.state.specs.declared.setup.Setup.{Setup}
 use Rattle.state.specs.declared.setup.Setup.the-variants.{Accepted, Refused}
+use Rattle.state.specs.declared.stops.Stop.{Stop}
+use Rattle.state.specs.declared.stops.Stop.the-variants as stop
 use Rattle.state.specs.Machine.{Env, Machine, machine}
+use Rattle.state.specs.Numbers.{refusalNumber, stopNumber}
 use Rattle.state.specs.Setup as setup
 use Rattle.machine.specs.declared.run.Reason.{Reason}
 use Rattle.machine.specs.declared.run.Reason.the-variants as reason
@@ -45,7 +45,7 @@ pub step-answers : StepAnswers
 step-answers p e m r v g w i = rw (i .answer) (step-first p e m)
 
 -- the numbers of refusals and stops
-refusal-between : (r : Refusal) → (0 < refusalNumber r) × (refusalNumber r < 20)
+pub refusal-between : (r : Refusal) → (0 < refusalNumber r) × (refusalNumber r < 6)
 refusal-between refusal.Registers = (omega arith, omega arith)
 refusal-between refusal.Program = (omega arith, omega arith)
 refusal-between refusal.WindowSize = (omega arith, omega arith)
@@ -59,7 +59,7 @@ stop-between (stop.Unread LeftOut) = (omega arith, omega arith)
 stop-between (stop.Unread Other) = (omega arith, omega arith)
 stop-between stop.BranchInSlot = (omega arith, omega arith)
 stop-between stop.SwitchedOff = (omega arith, omega arith)
-stop-between stop.NoWindow = (omega arith, omega arith)
+stop-between (stop.NoWindow x) = (omega arith, omega arith)
 stop-between stop.ReadOnly = (omega arith, omega arith)
 stop-between stop.Trap = (omega arith, omega arith)
 
@@ -69,7 +69,7 @@ pub data Reasoned : Reason → Type 0 where
   fewer : {r : Reason} → 0 < reasonNumber r → reasonNumber r < 20 → Reasoned r
 
 pub reasoned : (r : Reason) → Reasoned r
-reasoned (reason.Refused r) = fewer (refusal-between r .0) (refusal-between r .1)
+reasoned (reason.Refused r) = let h = refusal-between r in fewer {r = reason.Refused r} (h .0) (omega arith)
 reasoned (reason.Stopped s) = fewer (stop-between s .0) (stop-between s .1)
 reasoned reason.Spent = spends
 

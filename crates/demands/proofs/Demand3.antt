@@ -15,7 +15,6 @@ use Rattle.isa.specs.declared.Memory.{Memory}
 use Rattle.isa.specs.declared.Memory.the-variants.{Ld, St}
 use Rattle.isa.specs.declared.Read.{Read}
 use Rattle.isa.specs.declared.Read.the-variants as read
-use Rattle.isa.specs.declared.Stop.the-variants.{NoWord, Unread, NoWindow, Trap}
 use Rattle.isa.specs.declared.Vreg.{Vreg}
 use Rattle.memory.specs.Bytes.{replaced, part, number, bytesOf}
 use Rattle.memory.specs.File.{registerAt}
@@ -33,6 +32,7 @@ use Rattle.reading.specs.Reading.{readOf}
 use Rattle.state.specs.declared.control.Control.{Control}
 use Rattle.state.specs.declared.fetch.Fetched.{Fetched}
 use Rattle.state.specs.declared.fetch.Fetched.the-variants as fetch
+use Rattle.state.specs.declared.stops.Stop.the-variants.{NoWord, Unread, NoWindow, Trap}
 use Rattle.state.specs.declared.windows.Found.{Found}
 use Rattle.state.specs.declared.windows.Found.the-variants.{At, Nowhere}
 use Rattle.state.specs.Csr.{masked, arms}
@@ -134,7 +134,7 @@ InWindow b n (plan.Branch k) = Unit {0}
 
 -- the first plan stops with 17, or the second is the same
 data Alike (b n : ℕ) (q₁ q₂ : Plan) : Type 0 where
-  outside : q₁ ≡ plan.Stop NoWindow → Alike b n q₁ q₂
+  outside : (x : ℕ) → q₁ ≡ plan.Stop (NoWindow x) → Alike b n q₁ q₂
   same : q₂ ≡ q₁ → InWindow b n q₁ → Alike b n q₁ q₂
 
 module _ (table : List ℕ) (pb tb b₁ b₂ : ℕ) (v g : List ℕ) (c : Control)
@@ -186,29 +186,30 @@ module _ (table : List ℕ) (pb tb b₁ b₂ : ℕ) (v g : List ℕ) (c : Contro
   at-wider a from to =
       placed-at b₂ (length w₂) a (wider-from b₁ w₁ b₂ w₂ holds a from to) (wider-to b₁ w₁ b₂ w₂ holds a from to)
 
-  -- the address a, with what the table and the first work window say of it
-  load-alike : (a : ℕ) (wd : Vreg) (t f : Found) → placed b₁ (length w₁) a ≡ f
-      → Plans (loaded (orElse t f) wd table w₁) (loaded (orElse t (placed b₂ (length w₂) a)) wd table w₂)
-  load-alike a wd (At i) f p = same refl tt
-  load-alike a wd Nowhere Nowhere p = outside refl
-  load-alike a wd Nowhere (At j) p =
+  -- the address a, with what the table and the first work window say of it; y and z are missing if they say nothing
+  load-alike : (a : ℕ) (wd : Vreg) (y z : ℕ) (t f : Found) → placed b₁ (length w₁) a ≡ f
+      → Plans (loaded (orElse y t f) wd table w₁) (loaded (orElse z t (placed b₂ (length w₂) a)) wd table w₂)
+  load-alike a wd y z (At i) f p = same refl tt
+  load-alike a wd y z Nowhere Nowhere p = outside y refl
+  load-alike a wd y z Nowhere (At j) p =
       let h = placed-fits b₁ (length w₁) a j p in
       rw (at-wider a (h .0) (h .1), h .2)
       (same (ap (λ s. writes wd (number s)) (wider-part b₁ w₁ b₂ w₂ holds a (h .0) (h .1))) tt)
 
-  store-alike : (a x : ℕ) (t f : Found) → placed b₁ (length w₁) a ≡ f
-      → Plans (stored (orElse t f) a x) (stored (orElse t (placed b₂ (length w₂) a)) a x)
-  store-alike a x (At i) f p = same refl tt
-  store-alike a x Nowhere Nowhere p = outside refl
-  store-alike a x Nowhere (At j) p =
+  store-alike : (a x y z : ℕ) (t f : Found) → placed b₁ (length w₁) a ≡ f
+      → Plans (stored (orElse y t f) a x) (stored (orElse z t (placed b₂ (length w₂) a)) a x)
+  store-alike a x y z (At i) f p = same refl tt
+  store-alike a x y z Nowhere Nowhere p = outside y refl
+  store-alike a x y z Nowhere (At j) p =
       let h = placed-fits b₁ (length w₁) a j p in
       rw (at-wider a (h .0) (h .1))
       (same refl (h .0, h .1))
 
   accessed-alike : (o : Memory) (wd : Vreg) (a : ℕ)
       → Plans (accessed o (e₁ .bases) table v w₁ wd a) (accessed o (e₂ .bases) table v w₂ wd a)
-  accessed-alike Ld wd a = load-alike a wd (placed tb (length table) a) (placed b₁ (length w₁) a) refl
-  accessed-alike St wd a = store-alike a (registerAt v wd) (placed tb (length table) a) (placed b₁ (length w₁) a) refl
+  accessed-alike Ld wd a = load-alike a wd _ _ (placed tb (length table) a) (placed b₁ (length w₁) a) refl
+  accessed-alike St wd a =
+      store-alike a (registerAt v wd) _ _ (placed tb (length table) a) (placed b₁ (length w₁) a) refl
 
   control-alike : (one? trap? : Bool) (x : ℕ)
       → InWindow b₁ (length w₁) (cond one? (cond trap? (plan.Stop Trap) (plan.Csr x)) plan.Nothing)
@@ -256,13 +257,13 @@ module _ (table : List ℕ) (pb tb b₁ b₂ : ℕ) (v g : List ℕ) (c : Contro
   -- the first stops with 17, or both have the same outcome, registers and controls, the shared bytes stay shared, and
   -- no other byte changes
   data Together (s₁ s₂ : Result) : Type 0 where
-    apart : s₁ .outcome ≡ Stopped NoWindow → Together s₁ s₂
+    apart : (x : ℕ) → s₁ .outcome ≡ Stopped (NoWindow x) → Together s₁ s₂
     along : (o : Outcome) (v′ g′ : List ℕ) (c′ : Control) (w₁′ w₂′ : List ℕ)
         → s₁ ≡ result o (machine v′ g′ w₁′ c′) → s₂ ≡ result o (machine v′ g′ w₂′ c′)
         → Beside w₁′ w₂′ → Together s₁ s₂
 
   concluded-together : (q₁ q₂ : Plan) → Plans q₁ q₂ → Together (concluded b₁ q₁ m₁) (concluded b₂ q₂ m₂)
-  concluded-together q₁ q₂ (outside h) = apart (rw h)
+  concluded-together q₁ q₂ (outside x h) = apart x (rw h)
   concluded-together q₁ q₂ (same h i) =
       subst (λ q. Together (concluded b₁ q₁ m₁) (concluded b₂ q m₂)) (sym h) (along _ _ _ _ _ _ refl refl (after q₁ i))
 
@@ -344,7 +345,7 @@ module _ (p table : List ℕ) (pb tb b₁ b₂ : ℕ) where
         → (reasonNumber (go-on s₁ k₁ (placedEnv pb tb b₁ table) .reason) ≡ 20 → ⊥)
         → EndsAlike b₁ (length w₁) b₂ w₂ (go-on s₁ k₁ (placedEnv pb tb b₁ table))
         (go-on s₂ k₂ (placedEnv pb tb b₂ table))
-    onward-alike s₁ s₂ (apart h) no17 no20 = absurd (no17 (rw h))
+    onward-alike s₁ s₂ (apart x h) no17 no20 = absurd (no17 (rw h))
     onward-alike s₁ s₂ (along o v′ g′ c′ w₁′ w₂′ q₁ q₂ beside) no17 no20 =
         rw (q₁, q₂) (along-alike o v′ g′ c′ w₁′ w₂′ beside (rw q₁ at no17) (rw q₁ at no20))
 

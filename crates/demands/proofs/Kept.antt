@@ -15,7 +15,6 @@ use Rattle.isa.specs.declared.Instr.{Instr}
 use Rattle.isa.specs.declared.Instr.the-variants as instr
 use Rattle.isa.specs.declared.Memory.{Memory}
 use Rattle.isa.specs.declared.Memory.the-variants.{Ld, St}
-use Rattle.isa.specs.declared.Stop.the-variants.{Trap}
 use Rattle.isa.specs.declared.Vreg.{Vreg}
 use Rattle.memory.specs.Bytes.{part, number, replaced, bytesOf}
 use Rattle.memory.specs.File.{registerAt}
@@ -38,6 +37,7 @@ use Rattle.state.specs.declared.control.Control.{Control}
 use Rattle.state.specs.declared.control.Mark.{Mark}
 use Rattle.state.specs.declared.control.Mark.the-variants.{Clear, NotTaken, Taken}
 use Rattle.state.specs.declared.setup.Setup.the-variants.{Accepted, Refused}
+use Rattle.state.specs.declared.stops.Stop.the-variants.{Trap}
 use Rattle.state.specs.declared.windows.Spot.{Spot}
 use Rattle.state.specs.declared.windows.Spot.the-variants.{Table, Work, Outside}
 use Rattle.state.specs.Csr.{masked, arms}
@@ -137,12 +137,12 @@ module _ (e : Env) (m : Machine) where
   loaded-within : (s : Spot) (wd : Vreg) → Kept (loaded s wd (e .table) (m .work))
   loaded-within (Table i) wd = tt
   loaded-within (Work i) wd = tt
-  loaded-within Outside wd = tt
+  loaded-within (Outside y) wd = tt
 
   stored-within : (s : Spot) (a x : ℕ) → Kept (stored s a x)
   stored-within (Table i) a x = tt
   stored-within (Work i) a x = tt
-  stored-within Outside a x = tt
+  stored-within (Outside y) a x = tt
 
   accessed-within : (o : Memory) (wd : Vreg) (a : ℕ)
       → Kept (accessed o (e .bases) (e .table) (m .vec) (m .work) wd a)

@@ -10,6 +10,7 @@ pub mod Kept
 pub mod Lanes
 pub mod Limits
 pub mod Little
+pub mod Missing
 pub mod OneAnswer
 pub mod ReadLow
 pub mod Reasons

@@ -8,17 +8,17 @@ use native.Mathlib.Decide.{decLe}
 use native.Mathlib.Omega.{arith}
 use lib.Dec.{eqb, ltb}
 use lib.ListN.{length}
-use Rattle.isa.specs.declared.Refusal.{Refusal}
-use Rattle.isa.specs.declared.Refusal.the-variants as refusals
-use Rattle.isa.specs.Numbers.{refusalNumber}
 use Rattle.memory.specs.Bytes.{part, number}
 use Rattle.state.specs.declared.control.Control.{Control}
 use Rattle.state.specs.declared.control.Mark.{Mark}
 use Rattle.state.specs.declared.control.Mark.the-variants.{Clear, NotTaken, Taken}
+use Rattle.state.specs.declared.setup.Refusal.{Refusal}
+use Rattle.state.specs.declared.setup.Refusal.the-variants as refusals
 use Rattle.state.specs.declared.setup.Setup.{Setup}
 use Rattle.state.specs.declared.setup.Setup.the-variants.{Accepted, Refused}
 use Rattle.state.specs.Csr.{masked}
 use Rattle.state.specs.Machine.{Env, Machine}
+use Rattle.state.specs.Numbers.{refusalNumber}
 use Rattle.state.specs.Setup.{refusal, first, setupNumber, registersBad, programBad, windowBad, shares, targetBad, stateBad}
 use Rattle.demands.specs.Limits.{Registers, Program, Window, Shared, State, limits, FirstLimit}
 use Rattle.demands.specs.Tables.{Row, row, First, none, given, passed, Not, Some, little, Inside}

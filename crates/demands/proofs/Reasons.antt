@@ -16,7 +16,6 @@ use Rattle.isa.specs.declared.Memory.the-variants.{Ld, St}
 use Rattle.isa.specs.declared.Op.{Op}
 use Rattle.isa.specs.declared.Read.{Read}
 use Rattle.isa.specs.declared.Read.the-variants as read
-use Rattle.isa.specs.declared.Stop.the-variants.{Trap}
 use Rattle.isa.specs.declared.Unread.the-variants.{Unassigned, LeftOut, Other}
 use Rattle.isa.specs.declared.Vreg.{Vreg}
 use Rattle.isa.specs.declared.Width.{Width}
@@ -35,6 +34,7 @@ use Rattle.reading.specs.Reading.{readOf}
 use Rattle.state.specs.declared.control.Mark.{Mark}
 use Rattle.state.specs.declared.control.Mark.the-variants.{Clear, NotTaken, Taken}
 use Rattle.state.specs.declared.fetch.Fetched.the-variants.{Word, NoWord}
+use Rattle.state.specs.declared.stops.Stop.the-variants.{Trap}
 use Rattle.state.specs.declared.windows.Found.the-variants.{At, Nowhere}
 use Rattle.state.specs.Csr.{masked, arms}
 use Rattle.state.specs.Fetch.{fetched}
@@ -144,20 +144,20 @@ module _ (e : Env) (m : Machine) (sized : Sized e m) where
   risks i = row 17 (Accesses m Nowhere? i) ∷ row 18 (Accesses m ReadOnly? i) ∷ row 19 (SetsCsr m Arms i) ∷ []
 
   -- the two windows, as the machine tests them
-  abbrev holds : ℕ → ℕ → ℕ → Bool
-  holds base len a = leb base a && leb (a + 16) (base + len)
+  abbrev holdsAll : ℕ → ℕ → ℕ → Bool
+  holdsAll base len a = leb base a && leb (a + 16) (base + len)
 
-  in-table : (a : ℕ) → a < 2 ^ 64 → Reflects (holds (e .bases .table) (length (e .table)) a) (InTable e a)
+  in-table : (a : ℕ) → a < 2 ^ 64 → Reflects (holdsAll (e .bases .table) (length (e .table)) a) (InTable e a)
   in-table a h = all-inside (e .bases .table) (length (e .table)) a (sized .table-small) (sized .table) h
 
-  in-work : (a : ℕ) → a < 2 ^ 64 → Reflects (holds (e .bases .work) (length (m .work)) a) (InWork e m a)
+  in-work : (a : ℕ) → a < 2 ^ 64 → Reflects (holdsAll (e .bases .work) (length (m .work)) a) (InWork e m a)
   in-work a h = all-inside (e .bases .work) (length (m .work)) a (sized .work-small) (sized .work) h
 
   module _ (k : Op) (df : Width) (wd : Vreg) (offset : ℕ) (rs : Greg) where
-    abbrev a : ℕ
+    abbrev pub a : ℕ
     a = address df offset (generalAt (m .gen) rs)
 
-    abbrev access : Instr
+    abbrev pub access : Instr
     access = instr.Memory k df wd offset rs
 
     -- the address, by either definition
@@ -165,15 +165,15 @@ module _ (e : Env) (m : Machine) (sized : Sized e m) where
     same = ap (λ x. addressFrom x offset (elementBytes df)) (general-at rs)
         ∙ sym (address-from df offset (generalAt (m .gen) rs))
 
-    below : a < 2 ^ 64
+    pub below : a < 2 ^ 64
     unfolding address
     below = wrap-below 64 _
 
     module _ (f : Memory → ℕ → Type 0) where
-      accesses : f (memoryAt (k .0)) a → Accesses m f access
+      pub accesses : f (memoryAt (k .0)) a → Accesses m f access
       accesses h = at {k = k} {df = df} {offset = offset} {rs = rs} (rw same h)
 
-      accessing : Accesses m f access → f (memoryAt (k .0)) a
+      pub accessing : Accesses m f access → f (memoryAt (k .0)) a
       accessing (at h) = rw same at h
 
     no-csr : Not (SetsCsr m Arms access)
@@ -186,38 +186,38 @@ module _ (e : Env) (m : Machine) (sized : Sized e m) where
         passed (λ h. n (accessing Nowhere? h))
         (passed (λ h. not-store (accessing ReadOnly? h .0)) (passed no-csr none))
 
-    load-first : memoryAt (k .0) ≡ Ld → (t w : Bool) → Reflects t (InTable e a) → Reflects w (InWork e m a)
+    load-first : memoryAt (k .0) ≡ Ld → (z : ℕ) (t w : Bool) → Reflects t (InTable e a) → Reflects w (InWork e m a)
         → First (risks access)
         (outcomeNumber
         (outcomeOf (loaded
-        (orElse (cond t (At (a - e .bases .table)) Nowhere) (cond w (At (a - e .bases .work)) Nowhere)) wd (e .table)
+        (orElse z (cond t (At (a - e .bases .table)) Nowhere) (cond w (At (a - e .bases .work)) Nowhere)) wd (e .table)
         (m .work))))
-    load-first p true w x y = load-passes p (λ h. h .0 (x .yes refl))
-    load-first p false true x y = load-passes p (λ h. h .1 (y .yes refl))
-    load-first p false false x y = given (accesses Nowhere? (x .no refl, y .no refl))
+    load-first p z true w x y = load-passes p (λ h. h .0 (x .yes refl))
+    load-first p z false true x y = load-passes p (λ h. h .1 (y .yes refl))
+    load-first p z false false x y = given (accesses Nowhere? (x .no refl, y .no refl))
 
-    store-first : memoryAt (k .0) ≡ St → (t w : Bool) (v : ℕ) → Reflects t (InTable e a) → Reflects w (InWork e m a)
+    store-first : memoryAt (k .0) ≡ St → (v z : ℕ) (t w : Bool) → Reflects t (InTable e a) → Reflects w (InWork e m a)
         → First (risks access)
         (outcomeNumber
         (outcomeOf (stored
-        (orElse (cond t (At (a - e .bases .table)) Nowhere) (cond w (At (a - e .bases .work)) Nowhere)) a v)))
-    store-first p true w v x y =
+        (orElse z (cond t (At (a - e .bases .table)) Nowhere) (cond w (At (a - e .bases .work)) Nowhere)) a v)))
+    store-first p v z true w x y =
         passed (λ h. accessing Nowhere? h .0 (x .yes refl)) (given (accesses ReadOnly? (p, x .yes refl)))
-    store-first p false true v x y =
+    store-first p v z false true x y =
         passed (λ h. accessing Nowhere? h .1 (y .yes refl))
         (passed (λ h. x .no refl (accessing ReadOnly? h .1)) (passed no-csr none))
-    store-first p false false v x y = given (accesses Nowhere? (x .no refl, y .no refl))
+    store-first p v z false false x y = given (accesses Nowhere? (x .no refl, y .no refl))
 
     access-first : (o : Memory) → memoryAt (k .0) ≡ o
         → First (risks access)
         (outcomeNumber (outcomeOf (accessed o (e .bases) (e .table) (m .vec) (m .work) wd a)))
     unfolding placed
     access-first Ld p =
-        load-first p (holds (e .bases .table) (length (e .table)) a) (holds (e .bases .work) (length (m .work)) a)
-        (in-table a below) (in-work a below)
+        load-first p _ (holdsAll (e .bases .table) (length (e .table)) a)
+        (holdsAll (e .bases .work) (length (m .work)) a) (in-table a below) (in-work a below)
     access-first St p =
-        store-first p (holds (e .bases .table) (length (e .table)) a) (holds (e .bases .work) (length (m .work)) a)
-        (registerAt (m .vec) wd) (in-table a below) (in-work a below)
+        store-first p (registerAt (m .vec) wd) _ (holdsAll (e .bases .table) (length (e .table)) a)
+        (holdsAll (e .bases .work) (length (m .work)) a) (in-table a below) (in-work a below)
 
   -- CTCMSA
   module _ (cd : Creg) (rs : Greg) where
@@ -278,7 +278,7 @@ module _ (e : Env) (m : Machine) (sized : Sized e m) where
 
 module _ (p : List ℕ) (e : Env) (m : Machine) where
   -- there is one
-  one-reading : {r r′ : Read} → ReadsAs p e m r → ReadsAs p e m r′ → r ≡ r′
+  pub one-reading : {r r′ : Read} → ReadsAs p e m r → ReadsAs p e m r′ → r ≡ r′
   one-reading s t =
       let k : s .number ≡ t .number = omega (arith, s .holds .0 .1, t .holds .0 .1) in
       sym (s .holds .1) ∙ ap (λ i. readOf (little p (4 * i) 4)) k ∙ t .holds .1
@@ -291,13 +291,13 @@ module _ (p : List ℕ) (e : Env) (m : Machine) where
     done : {f : Instr → Type 0} → Does p e m f → f i
     done d = let k : d .instruction ≡ i = cc (one-reading (d .reads) here) in rw k at (d .holds)
 
-  abbrev stands? : Bool
+  abbrev pub stands? : Bool
   stands? =
       leb (e .bases .program) (m .ctl .pc)
       && eqb ((m .ctl .pc - e .bases .program) % 4) 0
       && leb (m .ctl .pc - e .bases .program + 4) (length p)
 
-  stands : Reflects stands? (Some (StandsAt p e m))
+  pub stands : Reflects stands? (Some (StandsAt p e m))
   stands =
       likewise
       (λ h.
@@ -312,10 +312,10 @@ module _ (p : List ℕ) (e : Env) (m : Machine) where
       (eq-reflects ((m .ctl .pc - e .bases .program) % 4) 0))
       (le-reflects (m .ctl .pc - e .bases .program + 4) (length p)))
 
-  abbrev w : ℕ
+  abbrev pub w : ℕ
   w = number (part p (m .ctl .pc - e .bases .program) 4)
 
-  reads : Some (StandsAt p e m) → ReadsAs p e m (readOf w)
+  pub reads : Some (StandsAt p e m) → ReadsAs p e m (readOf w)
   reads s =
       let k : 4 * s .number ≡ m .ctl .pc - e .bases .program = omega (arith, s .holds .1) in
       let same = ap readOf (little-number p (4 * s .number) 4 ∙ ap (λ at. number (part p at 4)) k) in

@@ -1,5 +1,5 @@
 -- Where no instruction is finished no lent byte is changed. Assumes nothing.
-use mathlib.Core.Path.{_≡_, refl, ap, _∙_}
+use mathlib.Core.Path.{_≡_, refl, sym, ap, _∙_}
 use mathlib.Core.Bool.{cond}
 use mathlib.Core.List.{List}
 use Prim.Native.Nat.{ℕ, zero, suc}
@@ -46,12 +46,12 @@ module _ (p : List ℕ) (e : Env) (m : Machine) where
 
 pub step-keeps : StepKeeps
 step-keeps p e m r v g w b b′ i n =
-    let none : answerNumber (wholeStep p e m .answer) ≡ 0 → ⊥ = λ z. n (i .answer ∙ z) in
+    let none : answerNumber (wholeStep p e m .answer) ≡ 0 → ⊥ = λ z. n (i .reason ∙ z) in
     let kept = whole-kept p e m (refusal p e m) none in
     (i .vec ∙ ap (λ x. x .vec) kept, i .gen ∙ ap (λ x. x .gen) kept, i .work ∙ ap (λ x. x .work) kept, i .control ∙ ap (λ x. cond x (written (wholeStep p e m .after .ctl) b) b) (ne-eqb (answerNumber (wholeStep p e m .answer)) 0 none))
 
 pub run-keeps : RunKeeps
 run-keeps p e budget m r v g w b b′ i h =
-    let none : wholeRun p e budget m .count ≡ 0 = omega (arith, i .answer) in
+    let none : wholeRun p e budget m .count ≡ 0 = sym (i .count) ∙ h in
     let kept = admitted-kept p e m (refusal p e m) budget none in
     (i .vec ∙ ap (λ x. x .vec) kept, i .gen ∙ ap (λ x. x .gen) kept, i .work ∙ ap (λ x. x .work) kept, i .control ∙ ap (λ n. cond (ltb 0 n) (written (wholeRun p e budget m .after .ctl) b) b) none)

@@ -9,10 +9,10 @@ use borrow.Author.Tests.{eq-eqb, ne-eqb, leb-false}
 use lib.Dec.{eqb, leb}
 use lib.ListN.{length, take, drop, length-append}
 use lib.Seq.{take-at, drop-at}
-use Rattle.isa.specs.declared.Refusal.the-variants.{Registers, Program, WindowSize, SharedAddress, State}
 use Rattle.state.specs.declared.control.Control.{Control}
 use Rattle.state.specs.declared.control.Mark.{Mark}
 use Rattle.state.specs.declared.control.Mark.the-variants.{Clear, NotTaken, Taken}
+use Rattle.state.specs.declared.setup.Refusal.the-variants.{Registers, Program, WindowSize, SharedAddress, State}
 use Rattle.state.specs.declared.setup.Setup.the-variants.{Accepted, Refused}
 use Rattle.state.specs.Setup.{refusal, first, registersBad, programBad, windowBad, shares, stateBad}
 use Rattle.memory.specs.Bytes.{part, number, bytesOf}

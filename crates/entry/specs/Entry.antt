@@ -1,31 +1,37 @@
--- What the C entry answers and leaves: the definition's answer as document 01's number, the registers and the work window after it, and
--- the control block, which is written where an instruction was finished and else keeps every byte.
+-- What the C entry answers and leaves: the definition's answer as document 01's number, with the address that is missing
+-- (0 but with 17), the registers and the work window after it, and the control block, which is written where an
+-- instruction was finished and else keeps every byte.
 use mathlib.Core.Path.{_≡_}
-use Prim.Native.Nat.{ℕ, _+_, _*_, _^_}
+use Prim.Native.Nat.{ℕ}
 use mathlib.Core.Bool.{cond}
 use mathlib.Core.List.{List}
 use lib.Dec.{eqb, ltb}
 use Rattle.state.specs.declared.windows.Bases.{Bases}
-use Rattle.machine.specs.Numbers.{answerNumber, reasonNumber}
+use Rattle.machine.specs.Numbers.{answerNumber, reasonNumber, answerMissing, reasonMissing}
 use Rattle.machine.specs.Run.{Run}
 use Rattle.machine.specs.Step.{Whole}
+use Rattle.entry.specs.declared.MsaStepped.{MsaStepped}
+use Rattle.entry.specs.declared.MsaEnded.{MsaEnded}
 use Rattle.entry.specs.Block.{written}
 
 abbrev pub bases : ℕ → ℕ → ℕ → Bases
 bases p t w = record { program = p; table = t; work = w }
 
--- `msa_step` for the step s: the answer r, the vector registers v, the general registers g and the work window w after it, and the bytes
--- of the control block, b before and b′ after
-pub record StepsTo (s : Whole) (r : ℕ) (v g w b b′ : List ℕ) : Type 0 where
-  pub answer : r ≡ answerNumber (s .answer)
+-- `msa_step` for the step s: the answer r, the vector registers v, the general registers g and the work window w after
+-- it, and the bytes of the control block, b before and b′ after
+pub record StepsTo (s : Whole) (r : MsaStepped) (v g w b b′ : List ℕ) : Type 0 where
+  pub reason : r .reason ≡ answerNumber (s .answer)
+  pub missing : r .missing ≡ answerMissing (s .answer)
   pub vec : v ≡ s .after .vec
   pub gen : g ≡ s .after .gen
   pub work : w ≡ s .after .work
   pub control : b′ ≡ cond (eqb (answerNumber (s .answer)) 0) (written (s .after .ctl) b) b
 
 -- `msa_run` for the run s
-pub record RunsTo (s : Run) (r : ℕ) (v g w b b′ : List ℕ) : Type 0 where
-  pub answer : r ≡ reasonNumber (s .reason) + 2 ^ 32 * s .count
+pub record RunsTo (s : Run) (r : MsaEnded) (v g w b b′ : List ℕ) : Type 0 where
+  pub reason : r .reason ≡ reasonNumber (s .reason)
+  pub count : r .count ≡ s .count
+  pub missing : r .missing ≡ reasonMissing (s .reason)
   pub vec : v ≡ s .after .vec
   pub gen : g ≡ s .after .gen
   pub work : w ≡ s .after .work

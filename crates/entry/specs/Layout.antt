@@ -5,8 +5,8 @@ use mathlib.Core.List.{List}
 use Prim.Native.Nat.{ℕ, _^_, _<_}
 use lib.Dec.{eqb, leb}
 use lib.ListN.{length}
-use Rattle.isa.specs.declared.Refusal.the-variants.{State}
 use Rattle.state.specs.declared.control.Control.{Control}
+use Rattle.state.specs.declared.setup.Refusal.the-variants.{State}
 use Rattle.state.specs.declared.setup.Setup.{Setup}
 use Rattle.state.specs.declared.setup.Setup.the-variants.{Accepted, Refused}
 use Rattle.state.specs.Machine.{Env, machine}

@@ -11,7 +11,23 @@ ghost use Rattle.machine.specs.Step.{wholeStep};
 ghost use Rattle.entry.specs.Block.{decoded};
 ghost use Rattle.entry.specs.Entry.{bases, StepsTo, RunsTo};
 
-// One step: 0 where it is finished, else the number of the refusal or of the stop.
+// What C gets of a step: 0 where it is finished, else the number of the refusal or of the stop; and with 17 the address
+// that is missing, with every other number 0.
+#[repr(C)]
+pub struct MsaStepped {
+    pub reason: u64,
+    pub missing: u64,
+}
+
+// What C gets of a run: the number of its reason, the count of finished instructions, and the missing address.
+#[repr(C)]
+pub struct MsaEnded {
+    pub reason: u32,
+    pub count: u32,
+    pub missing: u64,
+}
+
+// One step.
 #[no_mangle]
 pub extern "C" fn msa_step(
     program: &[u8],
@@ -23,7 +39,7 @@ pub extern "C" fn msa_step(
     work: &mut [u8],
     work_base: u64,
     control: &mut [u8],
-) -> u64
+) -> MsaStepped
     ensures { λ r. ⌜ StepsTo (wholeStep (now (program .entry)) (env (bases «program_base» «table_base» «work_base») (now (table .entry))) (machine (now (vectors .entry)) (now (generals .entry)) (now (work .entry)) (decoded (now (control .entry))))) r (now (vectors .exit)) (now (generals .exit)) (now (work .exit)) (now (control .entry)) (now (control .exit)) ⌝ }
 {
     let bases = Bases {
@@ -37,10 +53,13 @@ pub extern "C" fn msa_step(
     let after = a.control;
     let n = numbers::answer_number(answer);
     block::settle(n == 0, after, control);
-    n as u64
+    MsaStepped {
+        reason: n as u64,
+        missing: numbers::answer_missing(answer),
+    }
 }
 
-// One run of at most budget instructions: the number of its reason, and 2^32 times the count of those that are finished.
+// One run of at most budget instructions.
 #[no_mangle]
 pub extern "C" fn msa_run(
     program: &[u8],
@@ -53,7 +72,7 @@ pub extern "C" fn msa_run(
     work_base: u64,
     control: &mut [u8],
     budget: u32,
-) -> u64
+) -> MsaEnded
     ensures { λ r. ⌜ RunsTo (wholeRun (now (program .entry)) (env (bases «program_base» «table_base» «work_base») (now (table .entry))) budget (machine (now (vectors .entry)) (now (generals .entry)) (now (work .entry)) (decoded (now (control .entry))))) r (now (vectors .exit)) (now (generals .exit)) (now (work .exit)) (now (control .entry)) (now (control .exit)) ⌝ }
 {
     let bases = Bases {
@@ -66,5 +85,9 @@ pub extern "C" fn msa_run(
     let reason = end.reason;
     let after = end.control;
     block::settle(0 < end.count, after, control);
-    numbers::reason_number(reason) as u64 + 4294967296 * (end.count as u64)
+    MsaEnded {
+        reason: numbers::reason_number(reason) as u32,
+        count: end.count,
+        missing: numbers::reason_missing(reason),
+    }
 }

@@ -1,13 +1,16 @@
-// Document 01's numbers of the answers, in code: the C entry has no other way to say them.
-use isa::Refusal;
-use isa::Stop;
+// Document 01's numbers of the answers, and the address that 17 carries, in code: the C entry has no other way to say
+// them.
 use isa::Unread;
 use machine::run::Reason;
 use machine::step::Answer;
 use machine::step::Outcome;
+use state::setup::Refusal;
+use state::stops::Stop;
 ghost use mathlib.Core.Path.{_≡_};
-ghost use Rattle.isa.specs.Numbers.{refusalNumber, stopNumber, unreadNumber};
+ghost use Rattle.isa.specs.Numbers.{unreadNumber};
+ghost use Rattle.state.specs.Numbers.{refusalNumber, stopNumber, stopMissing};
 ghost use Rattle.machine.specs.Numbers.{outcomeNumber, answerNumber, reasonNumber};
+ghost use Rattle.machine.specs.Numbers.{outcomeMissing, answerMissing, reasonMissing};
 
 fn refusal_number(r: Refusal) -> u8
     ensures { λ n. ⌜ n ≡ refusalNumber r ⌝ }
@@ -39,7 +42,7 @@ fn stop_number(s: Stop) -> u8
         Stop::Unread(u) => unread_number(u),
         Stop::BranchInSlot => 15,
         Stop::SwitchedOff => 16,
-        Stop::NoWindow => 17,
+        Stop::NoWindow(_) => 17,
         Stop::ReadOnly => 18,
         Stop::Trap => 19,
     }
@@ -70,5 +73,48 @@ pub fn reason_number(e: Reason) -> u8
         Reason::Refused(r) => refusal_number(r),
         Reason::Stopped(s) => stop_number(s),
         Reason::Spent => 20,
+    }
+}
+
+fn stop_missing(s: Stop) -> u64
+    ensures { λ n. ⌜ n ≡ stopMissing s ⌝ }
+{
+    match s {
+        Stop::NoWord => 0,
+        Stop::Unread(_) => 0,
+        Stop::BranchInSlot => 0,
+        Stop::SwitchedOff => 0,
+        Stop::NoWindow(x) => x,
+        Stop::ReadOnly => 0,
+        Stop::Trap => 0,
+    }
+}
+
+fn outcome_missing(o: Outcome) -> u64
+    ensures { λ n. ⌜ n ≡ outcomeMissing o ⌝ }
+{
+    match o {
+        Outcome::Finished => 0,
+        Outcome::Stopped(s) => stop_missing(s),
+    }
+}
+
+// The address that is missing, and 0 for every other answer.
+pub fn answer_missing(a: Answer) -> u64
+    ensures { λ n. ⌜ n ≡ answerMissing a ⌝ }
+{
+    match a {
+        Answer::Refused(_) => 0,
+        Answer::Ran(o) => outcome_missing(o),
+    }
+}
+
+pub fn reason_missing(e: Reason) -> u64
+    ensures { λ n. ⌜ n ≡ reasonMissing e ⌝ }
+{
+    match e {
+        Reason::Refused(_) => 0,
+        Reason::Stopped(s) => stop_missing(s),
+        Reason::Spent => 0,
     }
 }

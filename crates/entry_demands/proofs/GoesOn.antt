@@ -3,7 +3,7 @@
 use mathlib.Core.Path.{_≡_, refl, sym, ap, subst, _∙_}
 use mathlib.Core.Bool.{Bool, true, false, cond}
 use mathlib.Core.List.{List}
-use Prim.Native.Nat.{ℕ, zero, suc, _+_, _*_, _%_, _^_, _<_}
+use Prim.Native.Nat.{ℕ, zero, suc, _+_, _<_}
 use native.Mathlib.Nat.{zero-add}
 use native.Mathlib.Omega.{arith}
 use borrow.Author.Tests.{eqb-true, eq-eqb, lt-ltb}
@@ -20,6 +20,7 @@ use Rattle.machine.specs.declared.run.Reason.the-variants as reason
 use Rattle.machine.specs.Numbers.{reasonNumber}
 use Rattle.machine.specs.Run.{Run, adding, admitted, runs, wholeRun}
 use Rattle.machine.proofs.RunLaws.{same-machine}
+use Rattle.entry.specs.declared.MsaEnded.{MsaEnded}
 use Rattle.entry.specs.Block.{decoded, encoded, written}
 use Rattle.entry.specs.Entry.{RunsTo}
 use Rattle.entry.specs.Layout.{InRange, inLayout, orFive}
@@ -34,9 +35,9 @@ use Rattle.entry_demands.specs.GoesOn.{GoesOnCalled}
 use Rattle.entry_demands.proofs.Range.{decoded-in-range, run-in-range}
 
 -- no other reason has the number 20
-twenty : (r : Reason) → Reasoned r → (count : ℕ) → (reasonNumber r + 2 ^ 32 * count) % 2 ^ 32 ≡ 20 → r ≡ reason.Spent
-twenty r spends count h = refl
-twenty r (fewer l u) count h = absurd (omega arith)
+twenty : (r : Reason) → Reasoned r → reasonNumber r ≡ 20 → r ≡ reason.Spent
+twenty r spends h = refl
+twenty r (fewer l u) h = absurd (omega arith)
 
 -- and no refused run has it
 admits : (q : Setup) (r : Run) (m : Machine) → admitted q r m .reason ≡ reason.Spent → q ≡ Accepted
@@ -105,7 +106,7 @@ module _ (p : List ℕ) (e : Env) (n : ℕ) (x : Lent) (bytes : AreBytes (x .con
       (no-steps (accepted-run p e n (machineOf x) h .steps))
   settled-reads (Refused u) h = rw (refused-run p e n (machineOf x) u h)
 
-  pub left-machine : (a : ℕ) (y : Lent) → Call p e n x a y → machineOf y ≡ wholeRun p e n (machineOf x) .after
+  pub left-machine : (a : MsaEnded) (y : Lent) → Call p e n x a y → machineOf y ≡ wholeRun p e n (machineOf x) .after
   left-machine a y i =
       let control = ap decoded (i .control) ∙ settled-reads (refusal p e (machineOf x)) refl in
       sym (same-machine (run .after) (y .vec) (y .gen) (y .work) (decoded (y .control)) (i .vec) (i .gen)
@@ -118,12 +119,12 @@ record Left (p : List ℕ) (e : Env) (n : ℕ) (x y : Lent) : Type 0 where
   control : y .control ≡ settled n (wholeRun p e n (machineOf x) .after .ctl) (x .control)
   machine : machineOf y ≡ wholeRun p e n (machineOf x) .after
 
-left : (p : List ℕ) (e : Env) (n a : ℕ) (x y : Lent) → AreBytes (x .control) → Call p e n x a y → a % 2 ^ 32 ≡ 20
-    → Left p e n x y
+left : (p : List ℕ) (e : Env) (n : ℕ) (a : MsaEnded) (x y : Lent) → AreBytes (x .control) → Call p e n x a y
+    → a .reason ≡ 20 → Left p e n x y
 left p e n a x y bytes i h =
     let m : Machine = machineOf x in
     let r : Run = wholeRun p e n m in
-    let ends : r .reason ≡ reason.Spent = twenty (r .reason) (reasoned (r .reason)) (r .count) (rw (i .answer) at h) in
+    let ends : r .reason ≡ reason.Spent = twenty (r .reason) (reasoned (r .reason)) (sym (i .reason) ∙ h) in
     let ok : refusal p e m ≡ Accepted = admits (refusal p e m) (runs p e n m) m ends in
     let all : r .count ≡ n = spent-count (accepted-run p e n m ok .why) ends in
     record {
@@ -134,7 +135,7 @@ left p e n a x y bytes i h =
     }
 
 -- a call for the run s
-abbrev Leaves : Run → Lent → ℕ → Lent → Type 0
+abbrev Leaves : Run → Lent → MsaEnded → Lent → Type 0
 Leaves s x r y = RunsTo s r (y .vec) (y .gen) (y .work) (x .control) (y .control)
 
 -- the second call goes on from there, and so does the one for both
@@ -158,4 +159,7 @@ goes-on-called p e n k a b c x y z z′ bytes i h j l =
     let work : z′ .work ≡ z .work = both .work ∙ sym (second .work) in
     let control : z′ .control ≡ z .control = both .control ∙ twice ∙ sym (second .control) in
     let same : z′ ≡ z = λ t. record { vec = vec t; gen = gen t; work = work t; control = control t } in
-    (omega (arith, both .answer, second .answer), same)
+    let number : c .reason ≡ b .reason = both .reason ∙ sym (second .reason) in
+    let count : c .count ≡ n + b .count = both .count ∙ ap (λ q. n + q) (sym (second .count)) in
+    let missing : c .missing ≡ b .missing = both .missing ∙ sym (second .missing) in
+    (λ t. record { reason = number t; count = count t; missing = missing t }, same)

@@ -4,6 +4,8 @@ use Prim.Native.Nat.{ℕ}
 use Rattle.state.specs.Machine.{Env, Machine, machine}
 use Rattle.machine.specs.Run.{wholeRun}
 use Rattle.machine.specs.Step.{wholeStep}
+use Rattle.entry.specs.declared.MsaStepped.{MsaStepped}
+use Rattle.entry.specs.declared.MsaEnded.{MsaEnded}
 use Rattle.entry.specs.Block.{decoded}
 use Rattle.entry.specs.Entry.{StepsTo, RunsTo}
 
@@ -19,10 +21,10 @@ abbrev pub machineOf : Lent → Machine
 machineOf x = machine (x .vec) (x .gen) (x .work) (decoded (x .control))
 
 -- a call of `msa_step` on the lent bytes x that answers r and leaves y
-abbrev pub StepCall : List ℕ → Env → Lent → ℕ → Lent → Type 0
+abbrev pub StepCall : List ℕ → Env → Lent → MsaStepped → Lent → Type 0
 StepCall p e x r y = StepsTo (wholeStep p e (machineOf x)) r (y .vec) (y .gen) (y .work) (x .control) (y .control)
 
--- the same of `msa_run`; its answer is reason + 2^32 * count
-abbrev pub Call : List ℕ → Env → ℕ → Lent → ℕ → Lent → Type 0
+-- the same of `msa_run`
+abbrev pub Call : List ℕ → Env → ℕ → Lent → MsaEnded → Lent → Type 0
 Call p e budget x r y =
     RunsTo (wholeRun p e budget (machineOf x)) r (y .vec) (y .gen) (y .work) (x .control) (y .control)

@@ -1,5 +1,6 @@
--- Document 01's number and values for each case of each answer. The promises of reading, writing, fetching, set-up, a
--- step, a run and a line are stated through these: an answer is what it says in that paper's terms, and nothing else.
+-- Document 01's number and values for each case of what reading and writing a word answer. (Those of refusals and stops:
+-- `state` Numbers.) The promises are stated through these: an answer is what it says in that paper's terms, and nothing
+-- else.
 use Prim.Native.Nat.{ℕ}
 use Rattle.isa.specs.declared.Unread.{Unread}
 use Rattle.isa.specs.declared.Unread.the-variants.{Unassigned, LeftOut, Other}
@@ -9,10 +10,6 @@ use Rattle.isa.specs.declared.Read.the-variants as read
 use Rattle.isa.specs.declared.Read.the-variants.{Not}
 use Rattle.isa.specs.declared.Written.{Written}
 use Rattle.isa.specs.declared.Written.the-variants.{Refused, Word}
-use Rattle.isa.specs.declared.Refusal.{Refusal}
-use Rattle.isa.specs.declared.Refusal.the-variants.{Registers, Program, WindowSize, SharedAddress, State}
-use Rattle.isa.specs.declared.Stop.{Stop}
-use Rattle.isa.specs.declared.Stop.the-variants as stop
 
 abbrev pub unreadNumber : Unread → ℕ
 unreadNumber Unassigned = 12
@@ -36,19 +33,3 @@ readSaid (read.Instr i) = values i
 abbrev pub writtenSaid : Written → Said ℕ
 writtenSaid Refused = number 6
 writtenSaid (Word w) = values w
-
-abbrev pub refusalNumber : Refusal → ℕ
-refusalNumber Registers = 1
-refusalNumber Program = 2
-refusalNumber WindowSize = 3
-refusalNumber SharedAddress = 4
-refusalNumber State = 5
-
-abbrev pub stopNumber : Stop → ℕ
-stopNumber stop.NoWord = 11
-stopNumber (stop.Unread u) = unreadNumber u
-stopNumber stop.BranchInSlot = 15
-stopNumber stop.SwitchedOff = 16
-stopNumber stop.NoWindow = 17
-stopNumber stop.ReadOnly = 18
-stopNumber stop.Trap = 19

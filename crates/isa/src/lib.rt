@@ -364,23 +364,3 @@ pub enum Written {
     Refused,
     Word(u32),
 }
-
-// Why a set-up is refused: 1 to 5.
-pub enum Refusal {
-    Registers,
-    Program,
-    WindowSize,
-    SharedAddress,
-    State,
-}
-
-// Why a step stops: 11 to 19.
-pub enum Stop {
-    NoWord,
-    Unread(Unread),
-    BranchInSlot,
-    SwitchedOff,
-    NoWindow,
-    ReadOnly,
-    Trap,
-}

@@ -6,7 +6,6 @@ use native.Mathlib.Nat.{add-assoc, add-zero, zero-add}
 use native.Mathlib.Omega.{arith}
 use Rattle.isa.specs.declared.Read.{Read}
 use Rattle.isa.specs.declared.Read.the-variants.{Not, Instr}
-use Rattle.isa.specs.declared.Stop.{Stop}
 use Rattle.reading.specs.Reading.{readOf}
 use Rattle.plan.specs.declared.Plan.{Plan}
 use Rattle.plan.specs.declared.Plan.the-variants as plan
@@ -14,13 +13,14 @@ use Rattle.plan.specs.Plan.{planOf}
 use Rattle.state.specs.declared.control.Control.{Control}
 use Rattle.state.specs.declared.fetch.Fetched.{Fetched}
 use Rattle.state.specs.declared.fetch.Fetched.the-variants.{Word, NoWord}
+use Rattle.state.specs.declared.stops.Stop.{Stop}
 use Rattle.state.specs.Fetch.{fetched}
 use Rattle.state.specs.Machine.{Env, Machine, machine}
 use Rattle.machine.specs.declared.step.Outcome.the-variants.{Finished, Stopped}
 use Rattle.machine.specs.declared.step.Stepped.{Stepped}
 use Rattle.machine.specs.declared.run.Reason.{Reason}
 use Rattle.machine.specs.declared.run.Reason.the-variants as reason
-use Rattle.machine.specs.Numbers.{reasonNumber}
+use Rattle.machine.specs.Numbers.{reasonNumber, reasonMissing}
 use Rattle.machine.specs.Run.{Run, RunIs, runs, adding, ended}
 use Rattle.machine.specs.Step.{Result, StepIs, stepOf, concluded, decided, attempted}
 
@@ -86,6 +86,7 @@ ends-is : (whole : Run) (why : Reason) (count : ℕ) (m : Machine) → adding co
 ends-is whole why count m ends =
     record {
       reason = ap (λ x. reasonNumber (x .reason)) ends;
+      missing = ap (λ x. reasonMissing (x .reason)) ends;
       count = sym (add-zero count) ∙ ap (λ x. x .count) ends;
       control = ap (λ x. x .after .ctl) ends;
       vec = ap (λ x. x .after .vec) ends;
@@ -117,6 +118,7 @@ module _ (p : List ℕ) (e : Env) (budget count : ℕ) (m : Machine) (whole : Ru
       in
       record {
         reason = r .reason;
+        missing = r .missing;
         count = r .count;
         control = r .control;
         vec = s .vec ∙ ap (λ y. y .vec) kept ∙ r .vec;

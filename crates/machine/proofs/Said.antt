@@ -2,7 +2,8 @@
 use mathlib.Core.Path.{_≡_, refl, ap}
 use mathlib.Core.List.{List}
 use Prim.Native.Nat.{ℕ}
-use Rattle.isa.proofs.Apart.{apart, Named, refused, stopped, neither, named, named-refusal, named-stop}
+use Rattle.isa.proofs.Apart.{apart}
+use Rattle.state.proofs.Named.{Named, refused, stopped, neither, named, named-refusal, named-stop}
 use Rattle.machine.specs.declared.run.Reason.{Reason}
 use Rattle.machine.specs.declared.run.Reason.the-variants as reason
 use Rattle.machine.specs.declared.step.Answer.{Answer}
@@ -10,32 +11,41 @@ use Rattle.machine.specs.declared.step.Answer.the-variants.{Refused, Ran
 use Rattle.machine.specs.declared.step.Outcome.the-variants.{Finished, Stopped}
 use Rattle.machine.specs.declared.run.Ended.{Ended}
 use Rattle.machine.specs.declared.step.Answered.{Answered}
-use Rattle.machine.specs.Numbers.{answerNumber, reasonNumber}
+use Rattle.machine.specs.Numbers.{answerNumber, reasonNumber, answerMissing, reasonMissing}
 use Rattle.machine.specs.Run.{Run, RunIs}
 use Rattle.machine.specs.Step.{Whole, WholeIs}
+
+-- the number of an answer and its address tell it from every other
+told : {A : Type 0} (number missing : A → ℕ) (from : Named → A)
+    → ((a : A) → from (named (number a) (missing a)) ≡ a)
+    → (a b : A) → number a ≡ number b → missing a ≡ missing b → a ≡ b
+told number missing from back a b e f =
+    apart {B = ℕ × ℕ} (λ x. (number x, missing x)) (λ t. from (named (t .0) (t .1))) back a b (λ k. (e k, f k))
 
 abbrev asAnswer : Named → Answer
 asAnswer (refused r) = Refused r
 asAnswer (stopped s) = Ran (Stopped s)
 asAnswer neither = Ran Finished
 
-answer-back : (a : Answer) → asAnswer (named (answerNumber a)) ≡ a
-answer-back (Refused r) = ap asAnswer (named-refusal r)
+answer-back : (a : Answer) → asAnswer (named (answerNumber a) (answerMissing a)) ≡ a
+answer-back (Refused r) = ap asAnswer (named-refusal r 0)
 answer-back (Ran Finished) = refl
 answer-back (Ran (Stopped s)) = ap asAnswer (named-stop s)
 
 pub answer-is : {s : Whole} {r : Answered} {v g w : List ℕ} → WholeIs s r v g w → r .answer ≡ s .answer
-answer-is {s} {r} i = apart answerNumber (λ n. asAnswer (named n)) answer-back (r .answer) (s .answer) (i .answer)
+answer-is {s} {r} i =
+    told answerNumber answerMissing asAnswer answer-back (r .answer) (s .answer) (i .answer) (i .missing)
 
 abbrev asReason : Named → Reason
 asReason (refused r) = reason.Refused r
 asReason (stopped s) = reason.Stopped s
 asReason neither = reason.Spent
 
-reason-back : (r : Reason) → asReason (named (reasonNumber r)) ≡ r
-reason-back (reason.Refused r) = ap asReason (named-refusal r)
+reason-back : (r : Reason) → asReason (named (reasonNumber r) (reasonMissing r)) ≡ r
+reason-back (reason.Refused r) = ap asReason (named-refusal r 0)
 reason-back (reason.Stopped s) = ap asReason (named-stop s)
 reason-back reason.Spent = refl
 
 pub reason-is : {s : Run} {r : Ended} {v g w : List ℕ} → RunIs s r v g w → r .reason ≡ s .reason
-reason-is {s} {r} i = apart reasonNumber (λ n. asReason (named n)) reason-back (r .reason) (s .reason) (i .reason)
+reason-is {s} {r} i =
+    told reasonNumber reasonMissing asReason reason-back (r .reason) (s .reason) (i .reason) (i .missing)

@@ -1,6 +1,6 @@
--- Document 01's number for each answer of a step and of a run.
+-- Document 01's number for each answer of a step and of a run, and the address that 17 carries.
 use Prim.Native.Nat.{ℕ}
-use Rattle.isa.specs.Numbers.{refusalNumber, stopNumber}
+use Rattle.state.specs.Numbers.{refusalNumber, stopNumber, stopMissing}
 use Rattle.machine.specs.declared.step.Outcome.{Outcome}
 use Rattle.machine.specs.declared.step.Outcome.the-variants.{Finished, Stopped}
 use Rattle.machine.specs.declared.step.Answer.{Answer}
@@ -21,3 +21,17 @@ abbrev pub reasonNumber : Reason → ℕ
 reasonNumber (reason.Refused r) = refusalNumber r
 reasonNumber (reason.Stopped s) = stopNumber s
 reasonNumber reason.Spent = 20
+
+-- the missing address, and 0 for every other answer
+abbrev pub outcomeMissing : Outcome → ℕ
+outcomeMissing Finished = 0
+outcomeMissing (Stopped s) = stopMissing s
+
+abbrev pub answerMissing : Answer → ℕ
+answerMissing (Refused r) = 0
+answerMissing (Ran o) = outcomeMissing o
+
+abbrev pub reasonMissing : Reason → ℕ
+reasonMissing (reason.Refused r) = 0
+reasonMissing (reason.Stopped s) = stopMissing s
+reasonMissing reason.Spent = 0

@@ -4,9 +4,6 @@ use Prim.Native.Nat.{ℕ}
 use mathlib.Core.List.{List}
 use Rattle.isa.specs.declared.Read.{Read}
 use Rattle.isa.specs.declared.Read.the-variants.{Not, Instr}
-use Rattle.isa.specs.declared.Refusal.{Refusal}
-use Rattle.isa.specs.declared.Stop.{Stop}
-use Rattle.isa.specs.declared.Stop.the-variants.{NoWord, Unread}
 use Rattle.reading.specs.Reading.{readOf}
 use Rattle.plan.specs.declared.Plan.{Plan}
 use Rattle.plan.specs.declared.Plan.the-variants as plan
@@ -14,8 +11,11 @@ use Rattle.plan.specs.Plan.{planOf}
 use Rattle.state.specs.declared.control.Control.{Control}
 use Rattle.state.specs.declared.fetch.Fetched.{Fetched}
 use Rattle.state.specs.declared.fetch.Fetched.the-variants as fetch
+use Rattle.state.specs.declared.setup.Refusal.{Refusal}
 use Rattle.state.specs.declared.setup.Setup.{Setup}
 use Rattle.state.specs.declared.setup.Setup.the-variants as setup
+use Rattle.state.specs.declared.stops.Stop.{Stop}
+use Rattle.state.specs.declared.stops.Stop.the-variants.{NoWord, Unread}
 use Rattle.state.specs.Fetch.{fetched}
 use Rattle.state.specs.Machine.{Env, Machine}
 use Rattle.state.specs.Setup.{refusal}
@@ -26,7 +26,7 @@ use Rattle.machine.specs.declared.step.Answer.{Answer}
 use Rattle.machine.specs.declared.step.Answer.the-variants.{Refused, Ran}
 use Rattle.machine.specs.declared.step.Answered.{Answered}
 use Rattle.machine.specs.Effect.{applied}
-use Rattle.machine.specs.Numbers.{answerNumber}
+use Rattle.machine.specs.Numbers.{answerNumber, answerMissing}
 
 -- how a step ends, and the machine then
 pub record Result : Type 0 where
@@ -95,6 +95,7 @@ ranAs s = record { answer = Ran (s .outcome); control = s .control }
 
 pub record WholeIs (s : Whole) (r : Answered) (v g w : List ℕ) : Type 0 where
   pub answer : answerNumber (r .answer) ≡ answerNumber (s .answer)
+  pub missing : answerMissing (r .answer) ≡ answerMissing (s .answer)
   pub control : r .control ≡ s .after .ctl
   pub vec : v ≡ s .after .vec
   pub gen : g ≡ s .after .gen

@@ -1,11 +1,11 @@
 // A run on lent memory: steps, counted, until one stops or the budget is spent.
 use crate::advance::advance;
 use crate::step::Outcome;
-use isa::Refusal;
-use isa::Stop;
 use state::control::Control;
 use state::setup;
+use state::setup::Refusal;
 use state::setup::Setup;
+use state::stops::Stop;
 use state::windows::Bases;
 ghost use mathlib.Core.Path.{_≡_};
 ghost use lib.ListN.{length};

@@ -1,10 +1,10 @@
 // One step on lent memory, with its set-up limits.
 use crate::advance::advance;
-use isa::Refusal;
-use isa::Stop;
 use state::control::Control;
 use state::setup;
+use state::setup::Refusal;
 use state::setup::Setup;
+use state::stops::Stop;
 use state::windows::Bases;
 ghost use mathlib.Core.Path.{_≡_};
 ghost use Rattle.state.specs.Machine.{env, machine};

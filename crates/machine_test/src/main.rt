@@ -1,5 +1,5 @@
-// Replays the cases of standard input through the C entry, `msa_step` and `msa_run`, and compares the answer, every
-// register, the control block and the work window, byte for byte. tools/machine_cases.py says what a case is made of.
+// Replays the cases of standard input through the C entry, `msa_step` and `msa_run`, and compares the answer with its
+// missing address, every register, the control block and the work window, byte for byte. tools/machine_cases.py says what a case is made of.
 mod head;
 mod pieces;
 mod tally;
@@ -8,22 +8,22 @@ use crate::tally::Tally;
 ghost use mathlib.Core.Path.{_≡_};
 ghost use lib.ListN.{length};
 
-// Calls what the head names on these registers and windows.
+// Calls what the head names on these registers and windows; whether the answer is the head's.
 fn called(
-    h: [u8; 80],
+    h: [u8; 84],
     program: &[u8],
     table: &[u8],
     vectors: &mut [u8],
     generals: &mut [u8],
     work: &mut [u8],
     control: &mut [u8],
-) -> u64 {
+) -> bool {
     let p = head::base(h, 0);
     let t = head::base(h, 1);
     let w = head::base(h, 2);
     let budget = head::budget(h);
     if head::is_run(h) {
-        return entry::msa_run(
+        let r = entry::msa_run(
             program,
             p,
             table,
@@ -35,20 +35,22 @@ fn called(
             control,
             budget,
         );
+        return head::run_agrees(h, r.reason, r.count, r.missing);
     }
-    entry::msa_step(program, p, table, t, vectors, generals, work, w, control)
+    let s = entry::msa_step(program, p, table, t, vectors, generals, work, w, control);
+    head::step_agrees(h, s.reason, s.missing)
 }
 
 // The same on the part of each that the head says.
 fn ran(
-    h: [u8; 80],
+    h: [u8; 84],
     program: &[u8],
     table: &[u8],
     vectors: &mut [u8],
     generals: &mut [u8],
     work: &mut [u8],
     control: &mut [u8],
-) -> u64 {
+) -> bool {
     let v = io::count(head::length(h, 0), vectors);
     let g = io::count(head::length(h, 1), generals);
     let c = io::count(head::length(h, 2), control);
@@ -68,7 +70,7 @@ fn ran(
 
 // Reads the windows before; `want` has the work window's bytes too.
 fn read_windows(
-    h: [u8; 80],
+    h: [u8; 84],
     program: &mut [u8],
     table: &mut [u8],
     work: &mut [u8],
@@ -82,7 +84,7 @@ fn read_windows(
 
 // Reads the contents after, runs the case and compares.
 fn agrees_after(
-    h: [u8; 80],
+    h: [u8; 84],
     vectors: [u8; 513],
     generals: [u8; 264],
     control: [u8; 280],
@@ -101,7 +103,7 @@ fn agrees_after(
     pieces::patch(&mut want_g);
     pieces::patch(&mut want_c);
     pieces::patch(want);
-    let answered = ran(h, program, table, &mut v, &mut g, work, &mut c) == head::answer(h);
+    let answered = ran(h, program, table, &mut v, &mut g, work, &mut c);
     let registers = pieces::same(&v, &want_v) & pieces::same(&g, &want_g);
     let lent = pieces::same(&c, &want_c) & pieces::same_start(work, want, head::length(h, 5));
     answered & registers & lent
@@ -110,7 +112,7 @@ fn agrees_after(
 // Reads the next case, runs it and compares. The head, and the registers and the control block before, are kept from
 // case to case.
 fn agrees(
-    h: &mut [u8; 80],
+    h: &mut [u8; 84],
     vectors: &mut [u8; 513],
     generals: &mut [u8; 264],
     control: &mut [u8; 280],
@@ -143,7 +145,7 @@ fn more() -> bool {
 }
 
 fn replay_all(program: &mut [u8], table: &mut [u8], work: &mut [u8], want: &mut [u8]) -> Tally {
-    let mut h = [0u8; 80];
+    let mut h = [0u8; 84];
     let mut v = [0u8; 513];
     let mut g = [0u8; 264];
     let mut c = [0u8; 280];

@@ -45,7 +45,7 @@ fn name(group: u8) {
     }
 }
 
-fn differs(h: [u8; 80]) {
+fn differs(h: [u8; 84]) {
     name(h[0]);
     io::write_all(1, b" case ");
     io::print_decimal(1, head::number(h));
@@ -53,7 +53,7 @@ fn differs(h: [u8; 80]) {
 }
 
 // The tally with one case more.
-pub fn with(t: Tally, h: [u8; 80], agrees: bool) -> Tally {
+pub fn with(t: Tally, h: [u8; 84], agrees: bool) -> Tally {
     let mut cases = t.cases;
     let mut agree = t.agree;
     let mut reached = t.reached;

@@ -10,10 +10,10 @@ use Rattle.isa.specs.declared.Instr.{Instr}
 use Rattle.isa.specs.declared.Instr.the-variants as instr
 use Rattle.isa.specs.declared.Memory.{Memory}
 use Rattle.isa.specs.declared.Memory.the-variants.{Ld, St}
-use Rattle.isa.specs.declared.Stop.the-variants.{Trap}
 use Rattle.isa.specs.declared.Vreg.{Vreg}
 use Rattle.ops.specs.Meaning.{memoryAt}
 use Rattle.memory.specs.File.{registerAt}
+use Rattle.state.specs.declared.stops.Stop.the-variants.{Trap}
 use Rattle.state.specs.declared.windows.Spot.{Spot}
 use Rattle.state.specs.declared.windows.Spot.the-variants.{Table, Work, Outside}
 use Rattle.state.specs.Csr.{masked, arms}
@@ -36,7 +36,7 @@ module _ (e : Env) (m : Machine) where
   loaded-there : (s : Spot) (wd : Vreg) → wd .0 < 32 → Names (loaded s wd (e .table) (m .work))
   loaded-there (Table i) wd h = h
   loaded-there (Work i) wd h = h
-  loaded-there Outside wd h = tt
+  loaded-there (Outside y) wd h = tt
 
   abbrev spot : ℕ → Spot
   spot a = spotOf (e .bases) (length (e .table)) (length (m .work)) a
@@ -45,7 +45,7 @@ module _ (e : Env) (m : Machine) where
   stored-there a x (Table i) p = tt
   stored-there a x (Work i) p =
       let h = spot-work (e .bases) (length (e .table)) (length (m .work)) a i p in (h .0, h .1)
-  stored-there a x Outside p = tt
+  stored-there a x (Outside y) p = tt
 
   accessed-there : (o : Memory) (wd : Vreg) (a : ℕ)
       → wd .0 < 32 → Names (accessed o (e .bases) (e .table) (m .vec) (m .work) wd a)

@@ -11,8 +11,6 @@ use Rattle.isa.specs.declared.Memory.{Memory}
 use Rattle.isa.specs.declared.Memory.the-variants.{Ld, St}
 use Rattle.isa.specs.declared.Instr.{Instr}
 use Rattle.isa.specs.declared.Instr.the-variants as instr
-use Rattle.isa.specs.declared.Stop.{Stop}
-use Rattle.isa.specs.declared.Stop.the-variants.{BranchInSlot, SwitchedOff, NoWindow, ReadOnly, Trap}
 use Rattle.memory.specs.Bytes.{part, number}
 use Rattle.memory.specs.File.{registerAt}
 use Rattle.memory.specs.Value.{register}
@@ -25,6 +23,8 @@ use Rattle.permute.specs.Permute.{chosenByImmediate, withElement}
 use Rattle.vectors.specs.Register.{whole, together, filled, element}
 use Rattle.state.specs.declared.control.Mark.{Mark}
 use Rattle.state.specs.declared.control.Mark.the-variants.{Clear, NotTaken, Taken}
+use Rattle.state.specs.declared.stops.Stop.{Stop}
+use Rattle.state.specs.declared.stops.Stop.the-variants.{BranchInSlot, SwitchedOff, NoWindow, ReadOnly, Trap}
 use Rattle.state.specs.declared.windows.Bases.{Bases}
 use Rattle.state.specs.declared.windows.Spot.{Spot}
 use Rattle.state.specs.declared.windows.Spot.the-variants.{Table, Work, Outside}
@@ -48,17 +48,17 @@ generalAt generals r = number (part generals (8 * r .0) 8)
 abbrev pub writes : Vreg → ℕ → Plan
 writes r x = plan.Vector r (register x)
 
--- LD answers with the sixteen bytes that stand at its addresses in one window
+-- LD answers with the sixteen bytes that stand at its addresses in one window, or stops and names the one missing
 abbrev pub loaded : Spot → Vreg → List ℕ → List ℕ → Plan
 loaded (Table i) wd table work = writes wd (number (part table i 16))
 loaded (Work i) wd table work = writes wd (number (part work i 16))
-loaded Outside wd table work = plan.Stop NoWindow
+loaded (Outside x) wd table work = plan.Stop (NoWindow x)
 
 -- ST replaces those of the work window
 abbrev pub stored : Spot → ℕ → ℕ → Plan
 stored (Table i) a x = plan.Stop ReadOnly
 stored (Work i) a x = plan.Store a (register x)
-stored Outside a x = plan.Stop NoWindow
+stored (Outside y) a x = plan.Stop (NoWindow y)
 
 abbrev pub accessed : Memory → Bases → List ℕ → List ℕ → List ℕ → Vreg → ℕ → Plan
 accessed Ld bases table vectors work wd a = loaded (spotOf bases (length table) (length work) a) wd table work

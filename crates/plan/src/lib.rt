@@ -10,10 +10,10 @@ mod vector;
 mod zero;
 
 use isa::Greg;
-use isa::Stop;
 use isa::Vreg;
 use memory::Register;
 use state::control::Mark;
+use state::stops::Stop;
 
 pub enum Plan {
     Stop(Stop),

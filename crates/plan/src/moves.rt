@@ -4,7 +4,6 @@ use isa::Copied;
 use isa::Creg;
 use isa::Greg;
 use isa::Memory;
-use isa::Stop;
 use isa::Vreg;
 use isa::Width;
 use memory::Register;
@@ -12,6 +11,7 @@ use memory::file::read_register;
 use permute::moves::copy_s;
 use permute::moves::copy_u;
 use state::setup::mask;
+use state::stops::Stop;
 use state::windows::Bases;
 use state::windows::Spot;
 use state::windows::locate;
@@ -103,7 +103,7 @@ fn load(wd: Vreg, a: u64, bases: Bases, table: &[u8], work: &[u8]) -> Plan
     match locate(bases, table.len(), work.len(), a) {
         Spot::Table(i) => Plan::Vector(wd, memory::sixteen(table, i)),
         Spot::Work(i) => Plan::Vector(wd, memory::sixteen(work, i)),
-        Spot::Outside => Plan::Stop(Stop::NoWindow),
+        Spot::Outside(x) => Plan::Stop(Stop::NoWindow(x)),
     }
 }
 
@@ -114,7 +114,7 @@ fn store(wd: Vreg, a: u64, bases: Bases, table: usize, work: usize, vectors: &[u
     match locate(bases, table, work, a) {
         Spot::Table(_) => Plan::Stop(Stop::ReadOnly),
         Spot::Work(_) => Plan::Store(a, read_register(vectors, wd)),
-        Spot::Outside => Plan::Stop(Stop::NoWindow),
+        Spot::Outside(x) => Plan::Stop(Stop::NoWindow(x)),
     }
 }
 

@@ -3,13 +3,14 @@ use mathlib.Core.Path.{_≡_, refl, ap}
 use mathlib.Core.List.{List}
 use Prim.Native.Nat.{ℕ}
 use Rattle.isa.specs.Numbers.{Said, number, values}
-use Rattle.isa.proofs.Apart.{apart, Named, refused, stopped, neither, named, named-refusal}
+use Rattle.isa.proofs.Apart.{apart}
 use Rattle.state.specs.declared.fetch.Fetched.{Fetched}
 use Rattle.state.specs.declared.fetch.Fetched.the-variants.{Word, NoWord}
 use Rattle.state.specs.declared.setup.Setup.{Setup}
 use Rattle.state.specs.declared.setup.Setup.the-variants.{Accepted, Refused}
 use Rattle.state.specs.Fetch.{fetched, fetchedSaid, Fetches}
 use Rattle.state.specs.Setup.{setupNumber, Checks}
+use Rattle.state.proofs.Named.{Named, refused, stopped, neither, named, named-refusal}
 
 abbrev fetchedFrom : Said ℕ → Fetched
 fetchedFrom (number n) = NoWord
@@ -27,9 +28,9 @@ asSetup (refused r) = Refused r
 asSetup (stopped s) = Accepted
 asSetup neither = Accepted
 
-setup-back : (r : Setup) → asSetup (named (setupNumber r)) ≡ r
+setup-back : (r : Setup) → asSetup (named (setupNumber r) 0) ≡ r
 setup-back Accepted = refl
-setup-back (Refused r) = ap asSetup (named-refusal r)
+setup-back (Refused r) = ap asSetup (named-refusal r 0)
 
 pub setup-is : {s r : Setup} → Checks s r → r ≡ s
-setup-is {s} {r} h = apart setupNumber (λ n. asSetup (named n)) setup-back r s (h .number)
+setup-is {s} {r} h = apart setupNumber (λ n. asSetup (named n 0)) setup-back r s (h .number)

@@ -5,18 +5,18 @@ use mathlib.Core.Bool.{Bool, true, false, cond, not, _&&_, _||_}
 use mathlib.Core.List.{List, [], _∷_}
 use lib.Dec.{eqb, ltb}
 use lib.ListN.{length}
-use Rattle.isa.specs.declared.Refusal.{Refusal}
-use Rattle.isa.specs.declared.Refusal.the-variants.{Registers, Program, WindowSize, SharedAddress, State}
-use Rattle.isa.specs.Numbers.{refusalNumber}
 use Rattle.memory.specs.Bytes.{part, number}
+use Rattle.state.specs.declared.control.Control.{Control}
 use Rattle.state.specs.declared.control.Mark.{Mark}
 use Rattle.state.specs.declared.control.Mark.the-variants.{Clear, NotTaken, Taken}
-use Rattle.state.specs.declared.control.Control.{Control}
-use Rattle.state.specs.declared.windows.Bases.{Bases}
+use Rattle.state.specs.declared.setup.Refusal.{Refusal}
+use Rattle.state.specs.declared.setup.Refusal.the-variants.{Registers, Program, WindowSize, SharedAddress, State}
 use Rattle.state.specs.declared.setup.Setup.{Setup}
 use Rattle.state.specs.declared.setup.Setup.the-variants.{Accepted, Refused}
+use Rattle.state.specs.declared.windows.Bases.{Bases}
 use Rattle.state.specs.Csr.{masked}
 use Rattle.state.specs.Machine.{Env, Machine}
+use Rattle.state.specs.Numbers.{refusalNumber}
 
 -- document 01's number of what the limits say; 0 where the set-up is accepted
 abbrev pub setupNumber : Setup → ℕ

@@ -2,4 +2,5 @@
 pub mod control;
 pub mod fetch;
 pub mod setup;
+pub mod stops;
 pub mod windows;

@@ -2,7 +2,6 @@
 use crate::control::Control;
 use crate::control::Mark;
 use crate::windows::Bases;
-use isa::Refusal;
 ghost use mathlib.Core.Path.{_≡_};
 ghost use mathlib.Core.Bool.{cond};
 ghost use Prim.Native.Nat.{_+_, _^_};
@@ -11,6 +10,15 @@ ghost use lib.ListN.{length};
 ghost use Rattle.state.specs.Machine.{env, machine};
 ghost use Rattle.state.specs.Csr.{masked};
 ghost use Rattle.state.specs.Setup.{registersBad, programBad, windowBad, shares, targetBad, stateBad, laterLimits, first, refusal, Checks};
+
+// Why a set-up is refused: 1 to 5.
+pub enum Refusal {
+    Registers,
+    Program,
+    WindowSize,
+    SharedAddress,
+    State,
+}
 
 // What the limits say of a set-up.
 pub enum Setup {

@@ -1,6 +1,8 @@
-// The two data windows, the read-only table and the work window: where the sixteen bytes of a load or a store stand.
+// The two data windows, the read-only table and the work window: where the sixteen bytes of a load or a store stand, or
+// which of them is missing.
+use std::num::wrapping_add_u64;
 ghost use mathlib.Core.Path.{_≡_};
-ghost use Rattle.state.specs.Windows.{placed, spotOf};
+ghost use Rattle.state.specs.Windows.{placed, holds, firstOutside, missing, spotOf};
 
 // Where the program, the table and the work window begin.
 pub struct Bases {
@@ -32,13 +34,52 @@ fn find(base: u64, len: usize, a: u64) -> Found
     }
 }
 
+// Whether a window of len bytes from base holds the address x.
+fn held(base: u64, len: usize, x: u64) -> bool
+    ensures { λ r. ⌜ r ≡ holds base len x ⌝ }
+{
+    if x < base {
+        return false;
+    }
+    x - base < len as u64
+}
+
+// Of the sixteen addresses from a the first that a window does not hold.
+fn first_outside(base: u64, len: usize, a: u64) -> u64
+    ensures { λ r. ⌜ r ≡ firstOutside 16 base len a ⌝ }
+{
+    let mut x = a;
+    let mut left: u64 = 16;
+    while 0 < left {
+        if held(base, len, x) {
+            x = wrapping_add_u64(x, 1);
+            left -= 1;
+        } else {
+            return x;
+        }
+    }
+    x
+}
+
+// The first of the sixteen addresses from a that is not in the window holding a. Where neither window holds a, that is
+// a itself, the first outside the work window.
+fn missing_of(bases: Bases, table: usize, work: usize, a: u64) -> u64
+    ensures { λ r. ⌜ r ≡ missing bases table work a ⌝ }
+{
+    if held(bases.table, table, a) {
+        return first_outside(bases.table, table, a);
+    }
+    first_outside(bases.work, work, a)
+}
+
 pub enum Spot {
     Table(usize),
     Work(usize),
-    Outside,
+    // the address that is missing
+    Outside(u64),
 }
 
-// The one window that holds all sixteen bytes from a.
+// The one window that holds all sixteen bytes from a, or the address that is missing.
 pub fn locate(bases: Bases, table: usize, work: usize, a: u64) -> Spot
     ensures { λ r. ⌜ r ≡ spotOf bases table work a ⌝ }
 {
@@ -46,7 +87,7 @@ pub fn locate(bases: Bases, table: usize, work: usize, a: u64) -> Spot
         Found::At(i) => Spot::Table(i),
         Found::Nowhere => match find(bases.work, work, a) {
             Found::At(i) => Spot::Work(i),
-            Found::Nowhere => Spot::Outside,
+            Found::Nowhere => Spot::Outside(missing_of(bases, table, work, a)),
         },
     }
 }

@@ -6,12 +6,13 @@ use Rattle.entry.proofs.msa_run.Tie as tie
 
 returns : tie.Need-returns
 returns c =
-    rw (← c .before .before .before .before .before .before .before .before .before .before .before .before .before .before .before .before .before .before .control-of .ensures)
-    (runs-to _ _ _ _ _ _ _ _ (c .before .before .before .before .before .before .before .before .before .before .before .before .before .before .run .ensures) (c .before .reason-number .ensures) (c .before .before .before .before .settle .ensures))
+    let run = c .before .before .before .before .before .before .before .before .before .before .before .before .before .before in
+    rw (← run .before .before .before .before .control-of .ensures)
+    (runs-to _ _ _ _ _ _ _ _ _ (run .run .ensures) (c .before .reason-number .ensures) (c .reason-missing .ensures)
+    (c .before .before .before .before .settle .ensures))
 
 pub msa-run-spec : {M : Type 1} → statement M
 msa-run-spec =
     tie.close (tie.spec
     (λ c κs. search needs) (λ c κs. search needs) (λ c κs. search needs) (λ c κs. search needs) (λ c. search needs)
-    (λ c. search needs) (λ c. search needs) (λ c. search needs) (λ c. search needs) (λ c. search needs)
-    (λ c. search needs) (λ c. search needs) returns)
+    (λ c κs. search needs) (λ c. search needs) (λ c. search needs) (λ c. search needs) (λ c. search needs) returns)

@@ -6,11 +6,13 @@ use Rattle.entry.proofs.msa_step.Tie as tie
 
 returns : tie.Need-returns
 returns c =
-    rw (← c .before .before .before .before .before .before .before .before .before .before .before .before .before .before .before .before .control-of .ensures)
-    (steps-to _ _ _ _ _ _ _ _ (c .before .before .before .before .before .before .before .before .before .before .before .before .step .ensures) (c .before .before .before .before .answer-number .ensures) (c .before .before .settle .ensures))
+    let step = c .before .before .before .before .before .before .before .before .before .before .before .before .before in
+    rw (← step .before .before .before .before .control-of .ensures)
+    (steps-to _ _ _ _ _ _ _ _ _ (step .step .ensures) (c .before .before .before .before .before .answer-number .ensures)
+    (c .answer-missing .ensures) (c .before .before .before .settle .ensures))
 
 pub msa-step-spec : {M : Type 1} → statement M
 msa-step-spec =
     tie.close (tie.spec
     (λ c κs. search needs) (λ c κs. search needs) (λ c κs. search needs) (λ c κs. search needs) (λ c. search needs)
-    (λ c. search needs) (λ c. search needs) (λ c. search needs) (λ c. search needs) returns)
+    (λ c κs. search needs) (λ c. search needs) (λ c. search needs) (λ c. search needs) (λ c. search needs) returns)

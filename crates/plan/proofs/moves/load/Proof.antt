@@ -21,7 +21,7 @@ returns-2 : tie.Need-returns-2
 returns-2 c = rw (← c .before .before .before .before .locate .ensures, c .before .before .i2 .given .1) (ap (Vector (c .before .before .before .before .before .before .before .args .wd)) (c .sixteen2 .ensures .is))
 
 returns-3 : tie.Need-returns-3
-returns-3 c = rw (← c .before .before .locate .ensures, c .enum-told .given .1)
+returns-3 c = rw (← c .before .before .before .locate .ensures, c .before .x .given .1)
 
 pub load-spec : {M : Type 1} → statement M
 load-spec =

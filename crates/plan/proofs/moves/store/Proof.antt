@@ -12,7 +12,7 @@ returns-2 : tie.Need-returns-2
 returns-2 c = rw (← c .before .before .before .locate .ensures, c .before .enum-told2 .given .1) (ap (Store (c .before .before .before .before .before .args .a)) (c .read-register .ensures .is))
 
 returns-3 : tie.Need-returns-3
-returns-3 c = rw (← c .before .before .locate .ensures, c .enum-told3 .given .1)
+returns-3 c = rw (← c .before .before .before .locate .ensures, c .before .x .given .1)
 
 pub store-spec : {M : Type 1} → statement M
 store-spec =

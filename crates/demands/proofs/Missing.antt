@@ -1,0 +1,346 @@
+-- The missing address. An access that stops with 17 lies in neither window (`first-reason`), so some address of the
+-- sixteen is outside the window that holds the first; the definition finds the first such. Assumes nothing.
+use mathlib.Core.Path.{_≡_, refl, sym, ap, _∙_}
+use mathlib.Core.Bool.{Bool, true, false, cond}
+use mathlib.Core.List.{List, [], _∷_}
+use Prim.Native.Nat.{ℕ, zero, suc, _+_, _%_, _^_, _<_}
+use native.Mathlib.Decide.{decLt}
+use native.Mathlib.Nat.{mod-lt}
+use native.Mathlib.Omega.{arith}
+use lib.ListN.{length}
+use lib.Pow.{pow-pos}
+use Rattle.isa.specs.declared.Instr.{Instr}
+use Rattle.isa.specs.declared.Instr.the-variants as instr
+use Rattle.isa.specs.declared.Memory.{Memory}
+use Rattle.isa.specs.declared.Memory.the-variants.{Ld, St}
+use Rattle.isa.specs.declared.Read.the-variants as read
+use Rattle.isa.specs.declared.Unread.the-variants.{Unassigned, LeftOut, Other}
+use Rattle.isa.specs.declared.Vreg.{Vreg}
+use Rattle.memory.specs.File.{registerAt}
+use Rattle.ops.specs.Meaning.{memoryAt}
+use Rattle.plan.specs.declared.Plan.{Plan}
+use Rattle.plan.specs.Numbers.{address}
+use Rattle.plan.specs.Plan.{planOf, accessed, loaded, stored, generalAt, switchedEarly, unless}
+use Rattle.state.specs.declared.fetch.Fetched.the-variants.{Word, NoWord}
+use Rattle.state.specs.declared.setup.Refusal.{Refusal}
+use Rattle.state.specs.declared.setup.Setup.{Setup}
+use Rattle.state.specs.declared.setup.Setup.the-variants.{Accepted, Refused}
+use Rattle.state.specs.declared.stops.Stop.{Stop}
+use Rattle.state.specs.declared.stops.Stop.the-variants as stop
+use Rattle.state.specs.declared.windows.Spot.{Spot}
+use Rattle.state.specs.declared.windows.Spot.the-variants.{Table, Work, Outside}
+use Rattle.state.specs.Fetch.{fetched}
+use Rattle.state.specs.Machine.{Env, Machine}
+use Rattle.state.specs.Numbers.{refusalNumber, stopNumber, stopMissing}
+use Rattle.state.specs.Setup.{refusal}
+use Rattle.state.specs.Windows.{holds, firstOutside, missing, spotOf}
+use Rattle.state.proofs.SetupLaws.{accepted}
+use Rattle.state.proofs.WindowLaws.{spot-outside, outside-here, outside-next, missing-table, missing-other}
+use Rattle.machine.specs.declared.run.Reason.{Reason}
+use Rattle.machine.specs.declared.run.Reason.the-variants as reason
+use Rattle.machine.specs.declared.step.Answer.{Answer}
+use Rattle.machine.specs.declared.step.Outcome.{Outcome}
+use Rattle.machine.specs.declared.step.Outcome.the-variants.{Finished, Stopped}
+use Rattle.machine.specs.Numbers.{outcomeNumber, answerNumber, reasonNumber}
+use Rattle.machine.specs.Numbers.{outcomeMissing, answerMissing, reasonMissing}
+use Rattle.machine.specs.Run.{wholeRun}
+use Rattle.machine.specs.Step.{stepOf, outcomeOf, attempted, decided, whole, wholeStep}
+use Rattle.machine.proofs.RunLaws.{same-machine}
+use Rattle.demands.specs.Demand1.{Why, spent, stopped}
+use Rattle.demands.specs.Limits.{limits}
+use Rattle.demands.specs.Missing.{FirstOutside, TableHolds, WorkHolds, Missing, table, work, nowhere}
+use Rattle.demands.specs.Missing.{OneMissing, Carries, StepMissing, RunMissing}
+use Rattle.demands.specs.Reasons.{Accesses, at, InTable, InWork, StandsAt, ReadsAs, Does, stops}
+use Rattle.demands.specs.Tables.{Row, row, First, none, given, passed, Not, Some, Inside}
+use Rattle.demands.proofs.Answers.{refusal-between}
+use Rattle.demands.proofs.Demand1.{accepted-run, refused-run}
+use Rattle.demands.proofs.Kept.{steps-accepted}
+use Rattle.demands.proofs.Limits.{first-limit}
+use Rattle.demands.proofs.Reasons.{first-reason, below, accesses, accessing, one-reading, stands?, stands, reads, w}
+use Rattle.demands.proofs.Reflects.{Reflects, le-reflects, lt-reflects, and-reflects}
+
+-- ---- the first address outside a window
+
+-- an address further on, counted from the next
+next : (a k : ℕ) → ((a + 1) % 2 ^ 64 + k) % 2 ^ 64 ≡ (a + suc k) % 2 ^ 64
+next a k = omega arith
+
+module _ (base len : ℕ) where
+  -- the machine's test of one address
+  inside : (x : ℕ) → Reflects (holds base len x) (Inside base len x)
+  unfolding holds
+  inside x = and-reflects _ _ (le-reflects base x) (lt-reflects x (base + len))
+
+  -- the window holds n addresses from a
+  abbrev All : ℕ → ℕ → Type 0
+  All n a = (k : ℕ) → k < n → Inside base len ((a + k) % 2 ^ 64)
+
+  -- the first of them, and those after it
+  joined : (n a : ℕ) → a < 2 ^ 64 → Inside base len a → All n ((a + 1) % 2 ^ 64) → All (suc n) a
+  joined n a l i all zero h = let e : (a + 0) % 2 ^ 64 ≡ a = omega arith in rw e i
+  joined n a l i all (suc k) h = rw (next a k) at (all k (omega arith))
+
+  first-outside : (n a : ℕ) → a < 2 ^ 64 → Not (All n a) → FirstOutside n base len a (firstOutside n base len a)
+  first-outside zero a l some = absurd (some (λ k h. absurd (omega arith)))
+  first-outside (suc n) a l some =
+      go (holds base len a) refl (first-outside n ((a + 1) % 2 ^ 64) (mod-lt (a + 1) (pow-pos 64)))
+    where
+      after : ℕ
+      after = (a + 1) % 2 ^ 64
+
+      go : (b : Bool) → holds base len a ≡ b
+          → (Not (All n after) → FirstOutside n base len after (firstOutside n base len after))
+          → FirstOutside (suc n) base len a (firstOutside (suc n) base len a)
+      go false h later =
+          rw (outside-here base len a (suc n) h)
+          (record {
+            place = 0;
+            within = omega arith;
+            is = omega arith;
+            outside = inside a .no h;
+            before = λ k l. absurd (omega arith);
+          })
+      go true h later =
+          let i = inside a .yes h in
+          let rest = later (λ all. some (joined n a l i all)) in
+          rw (outside-next base len a n h)
+          (record {
+            place = suc (rest .place);
+            within = omega (arith, rest .within);
+            is = rest .is ∙ next a (rest .place);
+            outside = rest .outside;
+            before = joined (rest .place) a l i (rest .before);
+          })
+
+-- ---- an access
+
+module _ (e : Env) (m : Machine) where
+  abbrev lost : ℕ → ℕ
+  lost a = missing (e .bases) (length (e .table)) (length (m .work)) a
+
+  -- the definition's address, of an access that neither window holds whole
+  missing-is : (a : ℕ) → a < 2 ^ 64 → Not (InTable e a) → Not (InWork e m a) → Missing e m a (lost a)
+  missing-is a l t w = go (holds tb tn a) (holds wb wn a) refl refl
+    where
+      tb : ℕ
+      tb = e .bases .table
+
+      tn : ℕ
+      tn = length (e .table)
+
+      wb : ℕ
+      wb = e .bases .work
+
+      wn : ℕ
+      wn = length (m .work)
+
+      go : (x y : Bool) → holds tb tn a ≡ x → holds wb wn a ≡ y → Missing e m a (lost a)
+      go true y h k =
+          rw (missing-table (e .bases) tn wn a h) (table (inside tb tn a .yes h) (first-outside tb tn 16 a l t))
+      go false true h k =
+          rw (missing-other (e .bases) tn wn a h) (work (inside wb wn a .yes k) (first-outside wb wn 16 a l w))
+      go false false h k =
+          nowhere (inside tb tn a .no h) (inside wb wn a .no k)
+          (missing-other (e .bases) tn wn a h ∙ outside-here wb wn a 16 k)
+
+  -- a plan that stops with 17 carries it
+  abbrev Stops : ℕ → Plan → Type 0
+  Stops a q = outcomeNumber (outcomeOf q) ≡ 17 → outcomeMissing (outcomeOf q) ≡ lost a
+
+  abbrev spot : ℕ → Spot
+  spot a = spotOf (e .bases) (length (e .table)) (length (m .work)) a
+
+  loaded-stops : (a : ℕ) (wd : Vreg) (s : Spot) → spot a ≡ s → Stops a (loaded s wd (e .table) (m .work))
+  loaded-stops a wd (Table i) p h = absurd (omega arith)
+  loaded-stops a wd (Work i) p h = absurd (omega arith)
+  loaded-stops a wd (Outside x) p h = spot-outside (e .bases) (length (e .table)) (length (m .work)) a x p
+
+  stored-stops : (a v : ℕ) (s : Spot) → spot a ≡ s → Stops a (stored s a v)
+  stored-stops a v (Table i) p h = absurd (omega arith)
+  stored-stops a v (Work i) p h = absurd (omega arith)
+  stored-stops a v (Outside x) p h = spot-outside (e .bases) (length (e .table)) (length (m .work)) a x p
+
+  accessed-stops : (o : Memory) (wd : Vreg) (a : ℕ)
+      → Stops a (accessed o (e .bases) (e .table) (m .vec) (m .work) wd a)
+  accessed-stops Ld wd a = loaded-stops a wd (spot a) refl
+  accessed-stops St wd a = stored-stops a (registerAt (m .vec) wd) (spot a) refl
+
+  switched-stops : (on : Bool) (a : ℕ) (q : Plan) → Stops a q → Stops a (unless (switchedEarly on) q)
+  switched-stops true a q h = h
+  switched-stops false a q h = λ n. absurd (omega arith)
+
+-- ---- the rows of a table
+
+-- the row that gives n, and those before it
+skipped : {k n : ℕ} {P : Type 0} {rows : List Row} → Not (k ≡ n) → First (row k P ∷ rows) n → First rows n
+skipped q (given p) = absurd (q refl)
+skipped q (passed r f) = f
+
+applies : {k n : ℕ} {P : Type 0} {rows : List Row} → (First rows n → ⊥) → First (row k P ∷ rows) n → P
+applies q (given p) = p
+applies q (passed r f) = absurd (q f)
+
+passes : {k n : ℕ} {P : Type 0} {rows : List Row} → Not (k ≡ n) → First (row k P ∷ rows) n → Not P
+passes q (given p) = absurd (q refl)
+passes q (passed r f) = r
+
+empty : {n : ℕ} → First [] n → n ≡ 0
+empty none = refl
+
+-- ---- one address
+
+-- of two the one that stands before the other would be inside
+one-outside : {n base len a x y : ℕ} → FirstOutside n base len a x → FirstOutside n base len a y → x ≡ y
+one-outside {n} {base} {len} {a} {x} {y} f g = go (decLt (f .place) (g .place)) (decLt (g .place) (f .place))
+  where
+    go : Dec (f .place < g .place) → Dec (g .place < f .place) → x ≡ y
+    go (yes h) d = absurd (f .outside (rw (f .is) (g .before (f .place) h)))
+    go (no h) (yes k) = absurd (g .outside (rw (g .is) (f .before (g .place) k)))
+    go (no h) (no k) =
+        let same : f .place ≡ g .place = omega arith in
+        f .is ∙ ap (λ k. (a + k) % 2 ^ 64) same ∙ sym (g .is)
+
+-- limit 4
+apart : (p : List ℕ) (e : Env) (m : Machine) → refusal p e m ≡ Accepted → (a : ℕ) → TableHolds e a → WorkHolds e m a
+    → ⊥
+apart p e m ok a t w =
+    let rows : First (limits p e m) 0 = rw ok at (first-limit p e m) in
+    passes (λ k. omega arith) (skipped (λ k. omega arith) (skipped (λ k. omega arith) (skipped (λ k. omega arith) rows)))
+    (record { number = a; holds = (t, w) })
+
+pub one-missing : OneMissing
+one-missing p e m ok a x y (table h f) (table k g) = one-outside f g
+one-missing p e m ok a x y (table h f) (work k g) = absurd (apart p e m ok a h k)
+one-missing p e m ok a x y (table h f) (nowhere t w g) = absurd (t h)
+one-missing p e m ok a x y (work h f) (table k g) = absurd (apart p e m ok a k h)
+one-missing p e m ok a x y (work h f) (work k g) = one-outside f g
+one-missing p e m ok a x y (work h f) (nowhere t w g) = absurd (w h)
+one-missing p e m ok a x y (nowhere t w f) (table k g) = absurd (t k)
+one-missing p e m ok a x y (nowhere t w f) (work k g) = absurd (w k)
+one-missing p e m ok a x y (nowhere t w f) (nowhere u v g) = f ∙ sym g
+
+-- ---- a step
+
+-- no other number carries an address
+stop-none : (s : Stop) → Not (stopNumber s ≡ 17) → stopMissing s ≡ 0
+stop-none stop.NoWord h = refl
+stop-none (stop.Unread u) h = refl
+stop-none stop.BranchInSlot h = refl
+stop-none stop.SwitchedOff h = refl
+stop-none (stop.NoWindow x) h = absurd (h refl)
+stop-none stop.ReadOnly h = refl
+stop-none stop.Trap h = refl
+
+outcome-none : (o : Outcome) → Not (outcomeNumber o ≡ 17) → outcomeMissing o ≡ 0
+outcome-none Finished h = refl
+outcome-none (Stopped s) h = stop-none s h
+
+-- neither window holds the sixteen addresses from a
+abbrev Lost : Env → Machine → Memory → ℕ → Type 0
+Lost e m o a = Not (InTable e a) × Not (InWork e m a)
+
+seventeen : (p : List ℕ) (e : Env) (m : Machine) (n : ℕ) → n ≡ 17 → First (stops p e m) n
+    → Does p e m (Accesses m (Lost e m))
+seventeen p e m n h f =
+    applies (λ g. let z = empty (skipped (λ k. omega arith) (skipped (λ k. omega arith) g)) in omega arith)
+    (skipped (λ k. omega arith)
+    (skipped (λ k. omega arith)
+    (skipped (λ k. omega arith)
+    (skipped (λ k. omega arith) (skipped (λ k. omega arith) (skipped (λ k. omega arith) f))))))
+
+module _ (p : List ℕ) (e : Env) (m : Machine) where
+  -- the instruction at the counter decides how the step ends
+  step-plans : {i : Instr} → ReadsAs p e m (read.Instr i) → stepOf p e m .outcome ≡ outcomeOf (planOf e m i)
+  unfolding stepOf fetched
+  step-plans {i} here = go (stands? p e m) (stands p e m)
+    where
+      go : (b : Bool) → Reflects b (Some (StandsAt p e m))
+          → attempted (cond b (Word (w p e m)) NoWord) e m .outcome ≡ outcomeOf (planOf e m i)
+      go true x = ap (λ r. decided r e m .outcome) (one-reading p e m (reads p e m (x .yes refl)) here)
+      go false x = absurd (x .no refl (record { number = here .number; holds = here .holds .0 }))
+
+  -- the address that it carries
+  abbrev carried : ℕ
+  carried = outcomeMissing (stepOf p e m .outcome)
+
+  access-carries : refusal p e m ≡ Accepted → outcomeNumber (stepOf p e m .outcome) ≡ 17
+      → (i : Instr) → ReadsAs p e m (read.Instr i) → Accesses m (Lost e m) i
+      → Accesses m (λ o a. Missing e m a carried) i
+  unfolding planOf
+  access-carries ok h i here (at {k = k} {df = df} {wd = wd} {offset = offset} {rs = rs} q) =
+      let sized = accepted p e m ok in
+      let a : ℕ = address df offset (generalAt (m .gen) rs) in
+      let o : Memory = memoryAt (k .0) in
+      let l : Lost e m o a = accessing e m sized k df wd offset rs (Lost e m) (at {wd = wd} q) in
+      let plans = step-plans here in
+      let is : carried ≡ lost e m a =
+      ap outcomeMissing plans
+      ∙ switched-stops e m (m .ctl .on) a (accessed o (e .bases) (e .table) (m .vec) (m .work) wd a)
+      (accessed-stops e m o wd a) (sym (ap outcomeNumber plans) ∙ h)
+      in
+      accesses e m sized k df wd offset rs (λ o a. Missing e m a carried)
+      (rw is (missing-is e m a (below e m sized k df wd offset rs) (l .0) (l .1)))
+
+  accepted-carries : refusal p e m ≡ Accepted → Carries p e m (outcomeNumber (stepOf p e m .outcome)) carried
+  accepted-carries ok =
+      record {
+        missing = λ h.
+            let d = seventeen p e m (outcomeNumber (stepOf p e m .outcome)) h (first-reason p e m ok) in
+            record {
+              instruction = d .instruction;
+              reads = d .reads;
+              holds = access-carries ok h (d .instruction) (d .reads) (d .holds);
+            };
+        none = outcome-none (stepOf p e m .outcome);
+      }
+
+  -- an answer with another number
+  nothing : (n : ℕ) → Not (n ≡ 17) → Carries p e m n 0
+  nothing n h = record { missing = λ k. absurd (h k); none = λ k. refl }
+
+  refused-carries : (r : Refusal) → Carries p e m (refusalNumber r) 0
+  refused-carries r = nothing (refusalNumber r) (λ h. omega (arith, refusal-between r .1))
+
+-- the definition's step
+pub step-carries : (p : List ℕ) (e : Env) (m : Machine)
+    → Carries p e m (answerNumber (wholeStep p e m .answer)) (answerMissing (wholeStep p e m .answer))
+step-carries p e m = go (refusal p e m) refl
+  where
+    answered : Setup → Answer
+    answered q = whole q (stepOf p e m) m .answer
+
+    go : (q : Setup) → refusal p e m ≡ q → Carries p e m (answerNumber (answered q)) (answerMissing (answered q))
+    go Accepted h = accepted-carries p e m h
+    go (Refused r) h = refused-carries p e m r
+
+pub step-missing : StepMissing
+step-missing p e m r v g w i = rw (i .answer, i .missing) (step-carries p e m)
+
+-- ---- a run
+
+module _ (p : List ℕ) (e : Env) (budget : ℕ) where
+  -- where it ended
+  why-carries : (count : ℕ) (m : Machine) (r : Reason) → refusal p e m ≡ Accepted → Why p e budget count m r
+      → Carries p e m (reasonNumber r) (reasonMissing r)
+  why-carries count m r ok (spent h) = nothing p e m 20 (λ k. omega arith)
+  why-carries count m r ok (stopped s l h) = rw h at (accepted-carries p e m ok)
+
+  -- the definition's run
+  pub run-carries : (m : Machine)
+      → Carries p e (wholeRun p e budget m .after) (reasonNumber (wholeRun p e budget m .reason))
+      (reasonMissing (wholeRun p e budget m .reason))
+  run-carries m = go (refusal p e m) refl
+    where
+      go : (q : Setup) → refusal p e m ≡ q
+          → Carries p e (wholeRun p e budget m .after) (reasonNumber (wholeRun p e budget m .reason))
+          (reasonMissing (wholeRun p e budget m .reason))
+      go Accepted h =
+          let ends = accepted-run p e budget m h in
+          why-carries _ _ _ (steps-accepted p e _ m _ (ends .steps) h) (ends .why)
+      go (Refused r) h = rw (refused-run p e budget m r h) (refused-carries p e m r)
+
+pub run-missing : RunMissing
+run-missing p e budget m r v g w i =
+    let s = wholeRun p e budget m in
+    rw (i .reason, i .missing, ← same-machine (s .after) v g w (r .control) (i .vec) (i .gen) (i .work) (i .control))
+    (run-carries p e budget m)
