@@ -94,9 +94,9 @@ struct test {
 };
 
 static struct msa_ended step(const struct test *t, struct lent *l) {
-    struct msa_stepped s = msa_step(t->program.at, t->program.n, t->program_base, t->table.at, t->table.n, t->table_base,
-                                    l->vectors.at, l->vectors.n, l->generals.at, l->generals.n, l->work.at, l->work.n,
-                                    t->work_base, l->control.at, l->control.n);
+    struct msa_stepped s = msa_step(t->program.at, t->program.n, t->program_base, t->table.at, t->table.n,
+                                    t->table_base, l->vectors.at, l->vectors.n, l->generals.at, l->generals.n,
+                                    l->work.at, l->work.n, t->work_base, l->control.at, l->control.n);
     return (struct msa_ended){s.reason > UINT32_MAX ? UINT32_MAX : (uint32_t)s.reason, 0, s.missing};
 }
 
@@ -139,8 +139,9 @@ static int agrees(const struct test *t, char how, struct bytes control, struct b
                        : !same(l.control, control_after) ? "control" : NULL;
     if (part) {
         differences++;
-        printf("%s (%c): %s; answer %" PRIu32 " %" PRIu32 " %" PRIX64 ", expected %" PRIu32 " %" PRIu32 " %" PRIX64 "\n",
-               t->name, how, part, got.reason, got.count, got.missing, want.reason, want.count, want.missing);
+        printf("%s (%c): %s; answer %" PRIu32 " %" PRIu32 " %" PRIX64, t->name, how, part, got.reason, got.count,
+               got.missing);
+        printf(", expected %" PRIu32 " %" PRIu32 " %" PRIX64 "\n", want.reason, want.count, want.missing);
     }
     free(l.vectors.at);
     free(l.generals.at);
@@ -198,7 +199,10 @@ static void replay(const char *name) {
         case 'w': t.work_base = strtoull(s, &s, 16); t.before.work = hex(s + 1); break;
         case 'c': t.before.control = block_of(s); break;
         case 'b': t.budget = (uint32_t)strtoul(s, NULL, 10); break;
-        case '=': t.answer.reason = (uint32_t)strtoul(s, &s, 10); t.answer.count = (uint32_t)strtoul(s, NULL, 10); break;
+        case '=':
+            t.answer.reason = (uint32_t)strtoul(s, &s, 10);
+            t.answer.count = (uint32_t)strtoul(s, NULL, 10);
+            break;
         case 'a': t.answer.missing = strtoull(s, NULL, 16); break;
         case 'V': t.after.vectors = *s == '=' ? t.before.vectors : hex(s); break;
         case 'G': t.after.generals = *s == '=' ? t.before.generals : hex(s); break;
@@ -214,7 +218,8 @@ static void replay(const char *name) {
 /* one control block on a set-up that is good but for it: a one-word program, ADDV.W $w5,$w1,$w2 */
 static int block_answers(struct bytes control, uint32_t reason) {
     static uint8_t program[4] = {0x4E, 0x09, 0x42, 0x78};
-    struct test t = {.name = "block", .program = {program, 4}, .table = lend(0), .program_base = 0x1000, .answer = {reason, 0, 0}};
+    struct test t = {.name = "block", .program = {program, 4}, .table = lend(0), .program_base = 0x1000};
+    t.answer.reason = reason;
     t.before.vectors = lend(512);
     t.before.generals = lend(256);
     t.before.work = lend(16);

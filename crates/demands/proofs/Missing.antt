@@ -56,7 +56,8 @@ use Rattle.demands.proofs.Answers.{refusal-between}
 use Rattle.demands.proofs.Demand1.{accepted-run, refused-run}
 use Rattle.demands.proofs.Kept.{steps-accepted}
 use Rattle.demands.proofs.Limits.{first-limit}
-use Rattle.demands.proofs.Reasons.{first-reason, below, accesses, accessing, one-reading, stands?, stands, reads, w}
+use Rattle.demands.proofs.Reasons.{first-reason, below, accesses, accessing}
+use Rattle.demands.proofs.Reasons.{one-reading, stands?, stands, reads, w}
 use Rattle.demands.proofs.Reflects.{Reflects, le-reflects, lt-reflects, and-reflects}
 
 -- ---- the first address outside a window
@@ -205,7 +206,8 @@ apart : (p : List ℕ) (e : Env) (m : Machine) → refusal p e m ≡ Accepted �
     → ⊥
 apart p e m ok a t w =
     let rows : First (limits p e m) 0 = rw ok at (first-limit p e m) in
-    passes (λ k. omega arith) (skipped (λ k. omega arith) (skipped (λ k. omega arith) (skipped (λ k. omega arith) rows)))
+    passes (λ k. omega arith)
+    (skipped (λ k. omega arith) (skipped (λ k. omega arith) (skipped (λ k. omega arith) rows)))
     (record { number = a; holds = (t, w) })
 
 pub one-missing : OneMissing

@@ -1,5 +1,5 @@
--- Where no instruction is finished no lent byte is changed: a step whose reason is other than 0, and a run with count 0.
--- A refusal is such a case, and so is a stop at once.
+-- Where no instruction is finished no lent byte is changed: a step whose reason is other than 0, and a run with count
+-- 0. A refusal is such a case, and so is a stop at once.
 use mathlib.Core.Path.{_≡_}
 use mathlib.Core.List.{List}
 use Prim.Native.Nat.{ℕ}

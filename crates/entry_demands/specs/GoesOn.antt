@@ -1,6 +1,7 @@
 -- Two calls of `msa_run` as one. A call that ended with 20 is gone on with by a call on the bytes that it left. The two
--- do what one call with the sum of their budgets does: it leaves the same bytes, has the second's reason and its missing
--- address, and counts what both count. (A budget is below 2^32, and so is a sum that a call can have; nothing here needs it.)
+-- do what one call with the sum of their budgets does: it leaves the same bytes, has the second's reason and its
+-- missing address, and counts what both count. (A budget is below 2^32, and so is a sum that a call can have; nothing
+-- here needs it.)
 use mathlib.Core.Path.{_≡_}
 use mathlib.Core.List.{List}
 use Prim.Native.Nat.{ℕ, _+_}

@@ -1,6 +1,6 @@
--- Document 01's number and values for each case of what reading and writing a word answer. (Those of refusals and stops:
--- `state` Numbers.) The promises are stated through these: an answer is what it says in that paper's terms, and nothing
--- else.
+-- Document 01's number and values for each case of what reading and writing a word answer. (Those of refusals and
+-- stops: `state` Numbers.) The promises are stated through these: an answer is what it says in that paper's terms, and
+-- nothing else.
 use Prim.Native.Nat.{ℕ}
 use Rattle.isa.specs.declared.Unread.{Unread}
 use Rattle.isa.specs.declared.Unread.the-variants.{Unassigned, LeftOut, Other}

@@ -1,5 +1,6 @@
 // Replays the cases of standard input through the C entry, `msa_step` and `msa_run`, and compares the answer with its
-// missing address, every register, the control block and the work window, byte for byte. tools/machine_cases.py says what a case is made of.
+// missing address, every register, the control block and the work window, byte for byte. tools/machine_cases.py says
+// what a case is made of.
 mod head;
 mod pieces;
 mod tally;

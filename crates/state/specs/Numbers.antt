@@ -1,5 +1,5 @@
--- Document 01's number of each refusal and of each stop, and the address that 17 carries (request 3/12). The promises of
--- set-up, a step and a run are stated through these.
+-- Document 01's number of each refusal and of each stop, and the address that 17 carries (request 3/12). The promises
+-- of set-up, a step and a run are stated through these.
 use Prim.Native.Nat.{ℕ}
 use Rattle.isa.specs.Numbers.{unreadNumber}
 use Rattle.state.specs.declared.setup.Refusal.{Refusal}

@@ -6,10 +6,11 @@ use Rattle.entry.proofs.msa_run.Tie as tie
 
 returns : tie.Need-returns
 returns c =
-    let run = c .before .before .before .before .before .before .before .before .before .before .before .before .before .before in
-    rw (← run .before .before .before .before .control-of .ensures)
-    (runs-to _ _ _ _ _ _ _ _ _ (run .run .ensures) (c .before .reason-number .ensures) (c .reason-missing .ensures)
-    (c .before .before .before .before .settle .ensures))
+    let settled = c .before .before .before .before in
+    let ran = settled .before .before .before .before .before .before .before .before .before .before in
+    rw (← ran .before .before .before .before .control-of .ensures)
+    (runs-to _ _ _ _ _ _ _ _ _ (ran .run .ensures) (c .before .reason-number .ensures) (c .reason-missing .ensures)
+    (settled .settle .ensures))
 
 pub msa-run-spec : {M : Type 1} → statement M
 msa-run-spec =

@@ -6,10 +6,12 @@ use Rattle.entry.proofs.msa_step.Tie as tie
 
 returns : tie.Need-returns
 returns c =
-    let step = c .before .before .before .before .before .before .before .before .before .before .before .before .before in
-    rw (← step .before .before .before .before .control-of .ensures)
-    (steps-to _ _ _ _ _ _ _ _ _ (step .step .ensures) (c .before .before .before .before .before .answer-number .ensures)
-    (c .answer-missing .ensures) (c .before .before .before .settle .ensures))
+    let settled = c .before .before .before in
+    let numbered = settled .before .before in
+    let ran = numbered .before .before .before .before .before .before .before .before in
+    rw (← ran .before .before .before .before .control-of .ensures)
+    (steps-to _ _ _ _ _ _ _ _ _ (ran .step .ensures) (numbered .answer-number .ensures) (c .answer-missing .ensures)
+    (settled .settle .ensures))
 
 pub msa-step-spec : {M : Type 1} → statement M
 msa-step-spec =

@@ -17,7 +17,9 @@ returns : tie.Need-returns
 returns c = rw (← setup-is (c .before .before .before .before .before .before .before .before .before .before .before .before .check .ensures), c .before .before .before .before .before .before .before .before .before .before .enum-told .given .1) (c .before .before .before .before .before .before .turns .ensures)
 
 returns-2 : tie.Need-returns-2
-returns-2 c = rw (← setup-is (c .before .before .before .check .ensures), c .before .r .given .1) (record { reason = refl; missing = refl; count = refl; control = refl; vec = refl; gen = refl; work = refl })
+returns-2 c =
+    rw (← setup-is (c .before .before .before .check .ensures), c .before .r .given .1)
+    (record { reason = refl; missing = refl; count = refl; control = refl; vec = refl; gen = refl; work = refl })
 
 pub run-spec : {M : Type 1} → statement M
 run-spec =

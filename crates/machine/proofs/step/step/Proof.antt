@@ -18,7 +18,9 @@ returns : tie.Need-returns
 returns c = rw (← setup-is (c .before .before .before .before .before .before .before .before .before .before .before .before .before .check .ensures), c .before .before .before .before .before .before .before .before .before .before .before .enum-told .given .1) (ran-is _ _ _ _ _ _ (c .before .before .before .before .before .before .before .advance .ensures) (c .ran .ensures))
 
 returns-2 : tie.Need-returns-2
-returns-2 c = rw (← setup-is (c .before .before .before .check .ensures), c .before .r .given .1) (record { answer = refl; missing = refl; control = refl; vec = refl; gen = refl; work = refl })
+returns-2 c =
+    rw (← setup-is (c .before .before .before .check .ensures), c .before .r .given .1)
+    (record { answer = refl; missing = refl; control = refl; vec = refl; gen = refl; work = refl })
 
 pub step-spec : {M : Type 1} → statement M
 step-spec =

@@ -15,7 +15,8 @@ returns-3 : tie.Need-returns-3
 returns-3 c =
     let told = c .before .before .before .before in
     let told2 = c .before in
-    rw (← told .before .before .find .ensures, told .enum-told .given .1, ← told2 .before .before .find2 .ensures, told2 .enum-told2 .given .1, ← c .missing-of .ensures)
+    rw (← told .before .before .find .ensures, told .enum-told .given .1)
+    (rw (← told2 .before .before .find2 .ensures, told2 .enum-told2 .given .1, ← c .missing-of .ensures))
 
 pub locate-spec : {M : Type 1} → statement M
 locate-spec =
