@@ -186,7 +186,8 @@ module _ (table : List ℕ) (pb tb b₁ b₂ : ℕ) (v g : List ℕ) (c : Contro
   at-wider a from to =
       placed-at b₂ (length w₂) a (wider-from b₁ w₁ b₂ w₂ holds a from to) (wider-to b₁ w₁ b₂ w₂ holds a from to)
 
-  -- the address a, with what the table and the first work window say of it; y and z are missing if they say nothing
+  -- the address a, with what the table and the first work window say of it; y is missing from the first machine where
+  -- they say nothing, z from the second
   load-alike : (a : ℕ) (wd : Vreg) (y z : ℕ) (t f : Found) → placed b₁ (length w₁) a ≡ f
       → Plans (loaded (orElse y t f) wd table w₁) (loaded (orElse z t (placed b₂ (length w₂) a)) wd table w₂)
   load-alike a wd y z (At i) f p = same refl tt

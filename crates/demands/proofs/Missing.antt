@@ -238,11 +238,11 @@ outcome-none Finished h = refl
 outcome-none (Stopped s) h = stop-none s h
 
 -- neither window holds the sixteen addresses from a
-abbrev Lost : Env → Machine → Memory → ℕ → Type 0
-Lost e m o a = Not (InTable e a) × Not (InWork e m a)
+abbrev InNeither : Env → Machine → Memory → ℕ → Type 0
+InNeither e m o a = Not (InTable e a) × Not (InWork e m a)
 
 seventeen : (p : List ℕ) (e : Env) (m : Machine) (n : ℕ) → n ≡ 17 → First (stops p e m) n
-    → Does p e m (Accesses m (Lost e m))
+    → Does p e m (Accesses m (InNeither e m))
 seventeen p e m n h f =
     applies (λ g. let z = empty (skipped (λ k. omega arith) (skipped (λ k. omega arith) g)) in omega arith)
     (skipped (λ k. omega arith)
@@ -266,14 +266,14 @@ module _ (p : List ℕ) (e : Env) (m : Machine) where
   carried = outcomeMissing (stepOf p e m .outcome)
 
   access-carries : refusal p e m ≡ Accepted → outcomeNumber (stepOf p e m .outcome) ≡ 17
-      → (i : Instr) → ReadsAs p e m (read.Instr i) → Accesses m (Lost e m) i
+      → (i : Instr) → ReadsAs p e m (read.Instr i) → Accesses m (InNeither e m) i
       → Accesses m (λ o a. Missing e m a carried) i
   unfolding planOf
   access-carries ok h i here (at {k = k} {df = df} {wd = wd} {offset = offset} {rs = rs} q) =
       let sized = accepted p e m ok in
       let a : ℕ = address df offset (generalAt (m .gen) rs) in
       let o : Memory = memoryAt (k .0) in
-      let l : Lost e m o a = accessing e m sized k df wd offset rs (Lost e m) (at {wd = wd} q) in
+      let l : InNeither e m o a = accessing e m sized k df wd offset rs (InNeither e m) (at {wd = wd} q) in
       let plans = step-plans here in
       let is : carried ≡ lost e m a =
       ap outcomeMissing plans
