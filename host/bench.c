@@ -53,7 +53,7 @@ static int bench(const char *name, unsigned times, double *spent, double *finish
                                        vectors, MSA_VECTORS_BYTES, generals, MSA_GENERALS_BYTES,
                                        work, window, work_base, control, MSA_CONTROL_BYTES, budget);
         time += seconds() - start;
-        right &= end.reason == reason && end.count == count && memcmp(now, after, lent) == 0;
+        right &= end.reason == reason && end.count == count && end.missing == 0 && memcmp(now, after, lent) == 0;
     }
     free(now);
     const char *slash = strrchr(name, '/');

@@ -38,7 +38,7 @@ enum {
 enum { MSA_MARK_CLEAR = 0, MSA_MARK_NOT_TAKEN = 1, MSA_MARK_TAKEN = 2 };
 enum { MSA_SWITCH_OFF = 0, MSA_SWITCH_ON = 1 };
 
-/* what comes back */
+/* the reasons that come back */
 enum msa_answer {
     MSA_FINISHED = 0, /* a step only */
 
@@ -62,15 +62,16 @@ enum msa_answer {
     MSA_SPENT = 20 /* a run only, and there before 11 to 19: the count equals the budget */
 };
 
-/* Read `reason` first. With MSA_NO_WINDOW `missing` is the first of the sixteen addresses,
+/* What msa_step and msa_run answer. Read `reason` first. With MSA_NO_WINDOW `missing` is the first of the sixteen addresses,
  * counted upward modulo 2^64, that does not lie in the window holding the first byte, or
  * the first address itself if no window holds it; it may be 0, past a window that ends at
  * 2^64. With every other reason `missing` is 0.
  *
  * C code compiled against the header in which both functions answered a uint64_t keeps
- * working: on x86-64 (System V) a struct of 16 bytes comes back in the registers rax and
- * rdx, the arguments stand where they stood, and rax is what it was, the reason of a step,
- * reason + 2^32 * count of a run. Such code does not look at rdx, where `missing` is.
+ * working: on x86-64 (System V) a struct of 16 bytes of integers comes back in the
+ * registers rax and rdx, the arguments stand where they stood, and rax is what it was, the
+ * reason of a step, reason + 2^32 * count of a run. Such code does not look at rdx, where
+ * `missing` is.
  */
 struct msa_stepped {
     uint64_t reason; /* of enum msa_answer */

@@ -1,8 +1,8 @@
 #!/usr/bin/env python3
 """Writes crates/machine_test/stdin: the cases of step.txt, run.txt, kernels/*.vec, corners-step.txt and
-corners-run.txt, whole, each from the first folder that has it; document 01's edges of a set-up, and accesses about the
-ends of two windows, which 17 names an address of; a step of each mnemonic and format of ops.txt; and control blocks,
-those outside docs/LAYOUT.md among them.
+corners-run.txt, whole, each from the first folder that has it; document 01's edges of a set-up, and accesses about two
+windows that stop; a step of each mnemonic and format of ops.txt; and control blocks, those outside docs/LAYOUT.md among
+them.
 
 usage: tools/machine_cases.py VECTORS-DIR/after-1 VECTORS-DIR > crates/machine_test/stdin
 
@@ -118,10 +118,11 @@ def general_1(x):
 
 
 def edges():
-    """Document 01, "Sums to check against": the set-up, the loads about a window of 16 bytes, and the budgets of a one-word program."""
+    """Document 01, "Sums to check against": the set-up, the loads about a window of 16 bytes, and the budgets of a
+    one-word program; then accesses that stop."""
     v = edge(0, "step", 0)["v"]
     done = {"V": added(v), "C": laid(4)}
-    n = iter(range(1, 1000))
+    n = iter(range(1, 10000))
     for entry in ("step", "run"):
         ran = {"step": {"reason": 0}, "run": {"reason": 20, "count": 1, "budget": 1}}[entry]
         yield edge(next(n), entry, **ran, **done)
@@ -140,23 +141,26 @@ def edges():
     yield edge(next(n), "run", 20)
     yield edge(next(n), "run", 20, budget=1, count=1, **done)
     yield edge(next(n), "run", 11, budget=2, count=1, **done)
-    for k, (reason, missing, given) in enumerate(stopped_accesses()):
-        yield edge(next(n), ("step", "run")[k % 2], reason, missing=missing, budget=1, **given)
+    for reason, missing, given in stopped_accesses():
+        for entry in ("step", "run"):
+            yield edge(next(n), entry, reason, missing=missing, budget=1, **given)
 
 
 def stopped_accesses():
-    """A load and a store at every address from which sixteen bytes pass an end of the table or of the work window, each
-    of 16 bytes, and the store into the table: windows that touch, windows at the two ends of memory."""
-    for table, work in ((0x1000, 0x1010), (2**64 - 16, 0), (0, 2**64 - 16)):
-        windows = [{(base + k) % 2**64 for k in range(16)} for base in (table, work)]
-        for at in sorted({(base + k) % 2**64 for base in (table, work) for k in range(-15, 16)}):
+    """Request 3/12: a load and a store at every address about two windows, the table and the work window, those of them
+    that stop with 17 or 18. The windows touch, stand at the two ends of memory, or are shorter than an access."""
+    layouts = [(0x1000, 24, 0x1018, 20), (0x1014, 24, 0x1000, 20), (2**64 - 24, 24, 0, 20), (0, 24, 2**64 - 20, 20)]
+    for table, table_bytes, work, work_bytes in layouts + [(0x1000, 5, 0x1008, 9)]:
+        windows = [{base + k for k in range(n)} for base, n in ((table, table_bytes), (work, work_bytes))]
+        for at in sorted({(x - k) % 2**64 for w in windows for x in w for k in range(16)}):
             addresses = [(at + k) % 2**64 for k in range(16)]
             whole = [w.issuperset(addresses) for w in windows]
             holding = next((w for w in windows if at in w), {})
             for word in (LD_B, ST_B):
-                given = {"tb": table, "t": bytes(16), "wb": work, "p": struct.pack("<I", word), "g": general_1(at)}
+                given = {"p": struct.pack("<I", word), "g": general_1(at), "tb": table, "wb": work}
+                given.update(t=bytes(table_bytes), w=bytes(range(work_bytes)))
                 if not any(whole):
-                    yield 17, at if not holding else next(x for x in addresses if x not in holding), given
+                    yield 17, next(x for x in addresses if x not in holding), given
                 elif word == ST_B and whole[0]:
                     yield 18, 0, given
 

@@ -1,27 +1,24 @@
 -- The missing address. An access that stops with 17 lies in neither window (`first-reason`), so some address of the
 -- sixteen is outside the window that holds the first; the definition finds the first such. Assumes nothing.
 use mathlib.Core.Path.{_≡_, refl, sym, ap, _∙_}
-use mathlib.Core.Bool.{Bool, true, false, cond}
+use mathlib.Core.Bool.{Bool, true, false}
 use mathlib.Core.List.{List, [], _∷_}
 use Prim.Native.Nat.{ℕ, zero, suc, _+_, _%_, _^_, _<_}
-use native.Mathlib.Decide.{decLt}
+use native.Mathlib.Decide.{decLt, ℕ-discrete}
 use native.Mathlib.Nat.{mod-lt}
 use native.Mathlib.Omega.{arith}
 use lib.ListN.{length}
 use lib.Pow.{pow-pos}
 use Rattle.isa.specs.declared.Instr.{Instr}
-use Rattle.isa.specs.declared.Instr.the-variants as instr
 use Rattle.isa.specs.declared.Memory.{Memory}
 use Rattle.isa.specs.declared.Memory.the-variants.{Ld, St}
 use Rattle.isa.specs.declared.Read.the-variants as read
-use Rattle.isa.specs.declared.Unread.the-variants.{Unassigned, LeftOut, Other}
 use Rattle.isa.specs.declared.Vreg.{Vreg}
 use Rattle.memory.specs.File.{registerAt}
 use Rattle.ops.specs.Meaning.{memoryAt}
 use Rattle.plan.specs.declared.Plan.{Plan}
 use Rattle.plan.specs.Numbers.{address}
 use Rattle.plan.specs.Plan.{planOf, accessed, loaded, stored, generalAt, switchedEarly, unless}
-use Rattle.state.specs.declared.fetch.Fetched.the-variants.{Word, NoWord}
 use Rattle.state.specs.declared.setup.Refusal.{Refusal}
 use Rattle.state.specs.declared.setup.Setup.{Setup}
 use Rattle.state.specs.declared.setup.Setup.the-variants.{Accepted, Refused}
@@ -29,35 +26,32 @@ use Rattle.state.specs.declared.stops.Stop.{Stop}
 use Rattle.state.specs.declared.stops.Stop.the-variants as stop
 use Rattle.state.specs.declared.windows.Spot.{Spot}
 use Rattle.state.specs.declared.windows.Spot.the-variants.{Table, Work, Outside}
-use Rattle.state.specs.Fetch.{fetched}
 use Rattle.state.specs.Machine.{Env, Machine}
 use Rattle.state.specs.Numbers.{refusalNumber, stopNumber, stopMissing}
 use Rattle.state.specs.Setup.{refusal}
-use Rattle.state.specs.Windows.{holds, firstOutside, missing, spotOf}
+use Rattle.state.specs.Windows.{liesIn, firstOutside, missing, spotOf}
 use Rattle.state.proofs.SetupLaws.{accepted}
 use Rattle.state.proofs.WindowLaws.{spot-outside, outside-here, outside-next, missing-table, missing-other}
 use Rattle.machine.specs.declared.run.Reason.{Reason}
-use Rattle.machine.specs.declared.run.Reason.the-variants as reason
 use Rattle.machine.specs.declared.step.Answer.{Answer}
 use Rattle.machine.specs.declared.step.Outcome.{Outcome}
 use Rattle.machine.specs.declared.step.Outcome.the-variants.{Finished, Stopped}
 use Rattle.machine.specs.Numbers.{outcomeNumber, answerNumber, reasonNumber}
 use Rattle.machine.specs.Numbers.{outcomeMissing, answerMissing, reasonMissing}
 use Rattle.machine.specs.Run.{wholeRun}
-use Rattle.machine.specs.Step.{stepOf, outcomeOf, attempted, decided, whole, wholeStep}
+use Rattle.machine.specs.Step.{stepOf, outcomeOf, whole, wholeStep}
 use Rattle.machine.proofs.RunLaws.{same-machine}
 use Rattle.demands.specs.Demand1.{Why, spent, stopped}
 use Rattle.demands.specs.Limits.{limits}
 use Rattle.demands.specs.Missing.{FirstOutside, TableHolds, WorkHolds, Missing, table, work, nowhere}
 use Rattle.demands.specs.Missing.{OneMissing, Carries, StepMissing, RunMissing}
-use Rattle.demands.specs.Reasons.{Accesses, at, InTable, InWork, StandsAt, ReadsAs, Does, stops}
-use Rattle.demands.specs.Tables.{Row, row, First, none, given, passed, Not, Some, Inside}
+use Rattle.demands.specs.Reasons.{Accesses, at, InTable, InWork, ReadsAs, Does, stops}
+use Rattle.demands.specs.Tables.{Row, row, First, none, given, passed, Not, Inside}
 use Rattle.demands.proofs.Answers.{refusal-between}
 use Rattle.demands.proofs.Demand1.{accepted-run, refused-run}
 use Rattle.demands.proofs.Kept.{steps-accepted}
 use Rattle.demands.proofs.Limits.{first-limit}
-use Rattle.demands.proofs.Reasons.{first-reason, below, accesses, accessing}
-use Rattle.demands.proofs.Reasons.{one-reading, stands?, stands, reads, w}
+use Rattle.demands.proofs.Reasons.{first-reason, one-reading, step-plans, below, accesses, accessing}
 use Rattle.demands.proofs.Reflects.{Reflects, le-reflects, lt-reflects, and-reflects}
 
 -- ---- the first address outside a window
@@ -68,8 +62,8 @@ next a k = omega arith
 
 module _ (base len : ℕ) where
   -- the machine's test of one address
-  inside : (x : ℕ) → Reflects (holds base len x) (Inside base len x)
-  unfolding holds
+  inside : (x : ℕ) → Reflects (liesIn base len x) (Inside base len x)
+  unfolding liesIn
   inside x = and-reflects _ _ (le-reflects base x) (lt-reflects x (base + len))
 
   -- the window holds n addresses from a
@@ -84,12 +78,12 @@ module _ (base len : ℕ) where
   first-outside : (n a : ℕ) → a < 2 ^ 64 → Not (All n a) → FirstOutside n base len a (firstOutside n base len a)
   first-outside zero a l some = absurd (some (λ k h. absurd (omega arith)))
   first-outside (suc n) a l some =
-      go (holds base len a) refl (first-outside n ((a + 1) % 2 ^ 64) (mod-lt (a + 1) (pow-pos 64)))
+      go (liesIn base len a) refl (first-outside n ((a + 1) % 2 ^ 64) (mod-lt (a + 1) (pow-pos 64)))
     where
       after : ℕ
       after = (a + 1) % 2 ^ 64
 
-      go : (b : Bool) → holds base len a ≡ b
+      go : (b : Bool) → liesIn base len a ≡ b
           → (Not (All n after) → FirstOutside n base len after (firstOutside n base len after))
           → FirstOutside (suc n) base len a (firstOutside (suc n) base len a)
       go false h later =
@@ -116,12 +110,12 @@ module _ (base len : ℕ) where
 -- ---- an access
 
 module _ (e : Env) (m : Machine) where
-  abbrev lost : ℕ → ℕ
-  lost a = missing (e .bases) (length (e .table)) (length (m .work)) a
+  abbrev missingFrom : ℕ → ℕ
+  missingFrom a = missing (e .bases) (length (e .table)) (length (m .work)) a
 
   -- the definition's address, of an access that neither window holds whole
-  missing-is : (a : ℕ) → a < 2 ^ 64 → Not (InTable e a) → Not (InWork e m a) → Missing e m a (lost a)
-  missing-is a l t w = go (holds tb tn a) (holds wb wn a) refl refl
+  missing-is : (a : ℕ) → a < 2 ^ 64 → Not (InTable e a) → Not (InWork e m a) → Missing e m a (missingFrom a)
+  missing-is a l t w = go (liesIn tb tn a) (liesIn wb wn a) refl refl
     where
       tb : ℕ
       tb = e .bases .table
@@ -135,7 +129,7 @@ module _ (e : Env) (m : Machine) where
       wn : ℕ
       wn = length (m .work)
 
-      go : (x y : Bool) → holds tb tn a ≡ x → holds wb wn a ≡ y → Missing e m a (lost a)
+      go : (x y : Bool) → liesIn tb tn a ≡ x → liesIn wb wn a ≡ y → Missing e m a (missingFrom a)
       go true y h k =
           rw (missing-table (e .bases) tn wn a h) (table (inside tb tn a .yes h) (first-outside tb tn 16 a l t))
       go false true h k =
@@ -145,30 +139,30 @@ module _ (e : Env) (m : Machine) where
           (missing-other (e .bases) tn wn a h ∙ outside-here wb wn a 16 k)
 
   -- a plan that stops with 17 carries it
-  abbrev Stops : ℕ → Plan → Type 0
-  Stops a q = outcomeNumber (outcomeOf q) ≡ 17 → outcomeMissing (outcomeOf q) ≡ lost a
+  abbrev Carrying : ℕ → Plan → Type 0
+  Carrying a q = outcomeNumber (outcomeOf q) ≡ 17 → outcomeMissing (outcomeOf q) ≡ missingFrom a
 
   abbrev spot : ℕ → Spot
   spot a = spotOf (e .bases) (length (e .table)) (length (m .work)) a
 
-  loaded-stops : (a : ℕ) (wd : Vreg) (s : Spot) → spot a ≡ s → Stops a (loaded s wd (e .table) (m .work))
-  loaded-stops a wd (Table i) p h = absurd (omega arith)
-  loaded-stops a wd (Work i) p h = absurd (omega arith)
-  loaded-stops a wd (Outside x) p h = spot-outside (e .bases) (length (e .table)) (length (m .work)) a x p
+  loaded-carrying : (a : ℕ) (wd : Vreg) (s : Spot) → spot a ≡ s → Carrying a (loaded s wd (e .table) (m .work))
+  loaded-carrying a wd (Table i) p h = absurd (omega arith)
+  loaded-carrying a wd (Work i) p h = absurd (omega arith)
+  loaded-carrying a wd (Outside x) p h = spot-outside (e .bases) (length (e .table)) (length (m .work)) a x p
 
-  stored-stops : (a v : ℕ) (s : Spot) → spot a ≡ s → Stops a (stored s a v)
-  stored-stops a v (Table i) p h = absurd (omega arith)
-  stored-stops a v (Work i) p h = absurd (omega arith)
-  stored-stops a v (Outside x) p h = spot-outside (e .bases) (length (e .table)) (length (m .work)) a x p
+  stored-carrying : (a v : ℕ) (s : Spot) → spot a ≡ s → Carrying a (stored s a v)
+  stored-carrying a v (Table i) p h = absurd (omega arith)
+  stored-carrying a v (Work i) p h = absurd (omega arith)
+  stored-carrying a v (Outside x) p h = spot-outside (e .bases) (length (e .table)) (length (m .work)) a x p
 
-  accessed-stops : (o : Memory) (wd : Vreg) (a : ℕ)
-      → Stops a (accessed o (e .bases) (e .table) (m .vec) (m .work) wd a)
-  accessed-stops Ld wd a = loaded-stops a wd (spot a) refl
-  accessed-stops St wd a = stored-stops a (registerAt (m .vec) wd) (spot a) refl
+  accessed-carrying : (o : Memory) (wd : Vreg) (a : ℕ)
+      → Carrying a (accessed o (e .bases) (e .table) (m .vec) (m .work) wd a)
+  accessed-carrying Ld wd a = loaded-carrying a wd (spot a) refl
+  accessed-carrying St wd a = stored-carrying a (registerAt (m .vec) wd) (spot a) refl
 
-  switched-stops : (on : Bool) (a : ℕ) (q : Plan) → Stops a q → Stops a (unless (switchedEarly on) q)
-  switched-stops true a q h = h
-  switched-stops false a q h = λ n. absurd (omega arith)
+  switched-carrying : (on : Bool) (a : ℕ) (q : Plan) → Carrying a q → Carrying a (unless (switchedEarly on) q)
+  switched-carrying true a q h = h
+  switched-carrying false a q h = λ n. absurd (omega arith)
 
 -- ---- the rows of a table
 
@@ -202,24 +196,41 @@ one-outside {n} {base} {len} {a} {x} {y} f g = go (decLt (f .place) (g .place)) 
         f .is ∙ ap (λ k. (a + k) % 2 ^ 64) same ∙ sym (g .is)
 
 -- limit 4
-apart : (p : List ℕ) (e : Env) (m : Machine) → refusal p e m ≡ Accepted → (a : ℕ) → TableHolds e a → WorkHolds e m a
+windows-apart : (p : List ℕ) (e : Env) (m : Machine) → refusal p e m ≡ Accepted → (a : ℕ) → TableHolds e a → WorkHolds e m a
     → ⊥
-apart p e m ok a t w =
+windows-apart p e m ok a t w =
     let rows : First (limits p e m) 0 = rw ok at (first-limit p e m) in
     passes (λ k. omega arith)
     (skipped (λ k. omega arith) (skipped (λ k. omega arith) (skipped (λ k. omega arith) rows)))
     (record { number = a; holds = (t, w) })
 
+one-address : (p : List ℕ) (e : Env) (m : Machine) → refusal p e m ≡ Accepted
+    → (a x y : ℕ) → Missing e m a x → Missing e m a y → x ≡ y
+one-address p e m ok a x y (table h f) (table k g) = one-outside f g
+one-address p e m ok a x y (table h f) (work k g) = absurd (windows-apart p e m ok a h k)
+one-address p e m ok a x y (table h f) (nowhere t w g) = absurd (t h)
+one-address p e m ok a x y (work h f) (table k g) = absurd (windows-apart p e m ok a k h)
+one-address p e m ok a x y (work h f) (work k g) = one-outside f g
+one-address p e m ok a x y (work h f) (nowhere t w g) = absurd (w h)
+one-address p e m ok a x y (nowhere t w f) (table k g) = absurd (t k)
+one-address p e m ok a x y (nowhere t w f) (work k g) = absurd (w k)
+one-address p e m ok a x y (nowhere t w f) (nowhere u v g) = f ∙ sym g
+
+-- the access is that of the instruction at the counter
+one-access : (p : List ℕ) (e : Env) (m : Machine) → refusal p e m ≡ Accepted → (i : Instr) (x y : ℕ)
+    → Accesses m (λ o a. Missing e m a x) i → Accesses m (λ o a. Missing e m a y) i → x ≡ y
+one-access p e m ok i x y (at q) (at r) = one-address p e m ok _ x y q r
+
 pub one-missing : OneMissing
-one-missing p e m ok a x y (table h f) (table k g) = one-outside f g
-one-missing p e m ok a x y (table h f) (work k g) = absurd (apart p e m ok a h k)
-one-missing p e m ok a x y (table h f) (nowhere t w g) = absurd (t h)
-one-missing p e m ok a x y (work h f) (table k g) = absurd (apart p e m ok a k h)
-one-missing p e m ok a x y (work h f) (work k g) = one-outside f g
-one-missing p e m ok a x y (work h f) (nowhere t w g) = absurd (w h)
-one-missing p e m ok a x y (nowhere t w f) (table k g) = absurd (t k)
-one-missing p e m ok a x y (nowhere t w f) (work k g) = absurd (w k)
-one-missing p e m ok a x y (nowhere t w f) (nowhere u v g) = f ∙ sym g
+one-missing p e m ok n x y c d = go (ℕ-discrete n 17)
+  where
+    go : Dec (n ≡ 17) → x ≡ y
+    go (yes h) =
+        let i = c .missing h in
+        let j = d .missing h in
+        let same : j .instruction ≡ i .instruction = cc (one-reading p e m (j .reads) (i .reads)) in
+        one-access p e m ok (i .instruction) x y (i .holds) (rw same at (j .holds))
+    go (no h) = c .none h ∙ sym (d .none h)
 
 -- ---- a step
 
@@ -251,16 +262,6 @@ seventeen p e m n h f =
     (skipped (λ k. omega arith) (skipped (λ k. omega arith) (skipped (λ k. omega arith) f))))))
 
 module _ (p : List ℕ) (e : Env) (m : Machine) where
-  -- the instruction at the counter decides how the step ends
-  step-plans : {i : Instr} → ReadsAs p e m (read.Instr i) → stepOf p e m .outcome ≡ outcomeOf (planOf e m i)
-  unfolding stepOf fetched
-  step-plans {i} here = go (stands? p e m) (stands p e m)
-    where
-      go : (b : Bool) → Reflects b (Some (StandsAt p e m))
-          → attempted (cond b (Word (w p e m)) NoWord) e m .outcome ≡ outcomeOf (planOf e m i)
-      go true x = ap (λ r. decided r e m .outcome) (one-reading p e m (reads p e m (x .yes refl)) here)
-      go false x = absurd (x .no refl (record { number = here .number; holds = here .holds .0 }))
-
   -- the address that it carries
   abbrev carried : ℕ
   carried = outcomeMissing (stepOf p e m .outcome)
@@ -274,11 +275,11 @@ module _ (p : List ℕ) (e : Env) (m : Machine) where
       let a : ℕ = address df offset (generalAt (m .gen) rs) in
       let o : Memory = memoryAt (k .0) in
       let l : InNeither e m o a = accessing e m sized k df wd offset rs (InNeither e m) (at {wd = wd} q) in
-      let plans = step-plans here in
-      let is : carried ≡ lost e m a =
+      let plans = step-plans p e m here in
+      let is : carried ≡ missingFrom e m a =
       ap outcomeMissing plans
-      ∙ switched-stops e m (m .ctl .on) a (accessed o (e .bases) (e .table) (m .vec) (m .work) wd a)
-      (accessed-stops e m o wd a) (sym (ap outcomeNumber plans) ∙ h)
+      ∙ switched-carrying e m (m .ctl .on) a (accessed o (e .bases) (e .table) (m .vec) (m .work) wd a)
+      (accessed-carrying e m o wd a) (sym (ap outcomeNumber plans) ∙ h)
       in
       accesses e m sized k df wd offset rs (λ o a. Missing e m a carried)
       (rw is (missing-is e m a (below e m sized k df wd offset rs) (l .0) (l .1)))

@@ -154,10 +154,10 @@ module _ (e : Env) (m : Machine) (sized : Sized e m) where
   in-work a h = all-inside (e .bases .work) (length (m .work)) a (sized .work-small) (sized .work) h
 
   module _ (k : Op) (df : Width) (wd : Vreg) (offset : ℕ) (rs : Greg) where
-    abbrev pub a : ℕ
+    abbrev a : ℕ
     a = address df offset (generalAt (m .gen) rs)
 
-    abbrev pub access : Instr
+    abbrev access : Instr
     access = instr.Memory k df wd offset rs
 
     -- the address, by either definition
@@ -291,13 +291,13 @@ module _ (p : List ℕ) (e : Env) (m : Machine) where
     done : {f : Instr → Type 0} → Does p e m f → f i
     done d = let k : d .instruction ≡ i = cc (one-reading (d .reads) here) in rw k at (d .holds)
 
-  abbrev pub stands? : Bool
+  abbrev stands? : Bool
   stands? =
       leb (e .bases .program) (m .ctl .pc)
       && eqb ((m .ctl .pc - e .bases .program) % 4) 0
       && leb (m .ctl .pc - e .bases .program + 4) (length p)
 
-  pub stands : Reflects stands? (Some (StandsAt p e m))
+  stands : Reflects stands? (Some (StandsAt p e m))
   stands =
       likewise
       (λ h.
@@ -312,14 +312,24 @@ module _ (p : List ℕ) (e : Env) (m : Machine) where
       (eq-reflects ((m .ctl .pc - e .bases .program) % 4) 0))
       (le-reflects (m .ctl .pc - e .bases .program + 4) (length p)))
 
-  abbrev pub w : ℕ
+  abbrev w : ℕ
   w = number (part p (m .ctl .pc - e .bases .program) 4)
 
-  pub reads : Some (StandsAt p e m) → ReadsAs p e m (readOf w)
+  reads : Some (StandsAt p e m) → ReadsAs p e m (readOf w)
   reads s =
       let k : 4 * s .number ≡ m .ctl .pc - e .bases .program = omega (arith, s .holds .1) in
       let same = ap readOf (little-number p (4 * s .number) 4 ∙ ap (λ at. number (part p at 4)) k) in
       record { number = s .number; holds = (s .holds, same) }
+
+  -- the instruction there decides how the step ends
+  pub step-plans : {i : Instr} → ReadsAs p e m (read.Instr i) → stepOf p e m .outcome ≡ outcomeOf (planOf e m i)
+  unfolding stepOf fetched
+  step-plans {i} here = go stands? stands
+    where
+      go : (b : Bool) → Reflects b (Some (StandsAt p e m))
+          → attempted (cond b (Word w) NoWord) e m .outcome ≡ outcomeOf (planOf e m i)
+      go true x = ap (λ r. decided r e m .outcome) (one-reading (reads (x .yes refl)) here)
+      go false x = absurd (x .no refl (record { number = here .number; holds = here .holds .0 }))
 
   module _ (sized : Sized e m) where
     planned-first : (i : Instr)

@@ -36,16 +36,16 @@ pub data Missing (e : Env) (m : Machine) (a x : ℕ) : Type 0 where
   work : WorkHolds e m a → FirstOutside 16 (e .bases .work) (length (m .work)) a x → Missing e m a x
   nowhere : Not (TableHolds e a) → Not (WorkHolds e m a) → x ≡ a → Missing e m a x
 
--- there is one, since windows that are accepted share no address
-abbrev pub OneMissing : Type 0
-OneMissing =
-    (p : List ℕ) (e : Env) (m : Machine) → refusal p e m ≡ Accepted
-    → (a x y : ℕ) → Missing e m a x → Missing e m a y → x ≡ y
-
 -- what the number n carries where the machine m stopped
 pub record Carries (p : List ℕ) (e : Env) (m : Machine) (n x : ℕ) : Type 0 where
   pub missing : n ≡ 17 → Does p e m (Accesses m (λ o a. Missing e m a x))
   pub none : Not (n ≡ 17) → x ≡ 0
+
+-- there is one, since windows that are accepted share no address
+abbrev pub OneMissing : Type 0
+OneMissing =
+    (p : List ℕ) (e : Env) (m : Machine) → refusal p e m ≡ Accepted
+    → (n x y : ℕ) → Carries p e m n x → Carries p e m n y → x ≡ y
 
 -- `step::step`
 abbrev pub StepMissing : Type 0

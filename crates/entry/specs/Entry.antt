@@ -1,6 +1,6 @@
 -- What the C entry answers and leaves: the definition's answer as document 01's number, with the address that is
--- missing (0 but with 17), the registers and the work window after it, and the control block, which is written where an
--- instruction was finished and else keeps every byte.
+-- missing, the registers and the work window after it, and the control block, which is written where an instruction was
+-- finished and else keeps every byte.
 use mathlib.Core.Path.{_≡_}
 use Prim.Native.Nat.{ℕ}
 use mathlib.Core.Bool.{cond}

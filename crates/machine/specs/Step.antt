@@ -11,7 +11,6 @@ use Rattle.plan.specs.Plan.{planOf}
 use Rattle.state.specs.declared.control.Control.{Control}
 use Rattle.state.specs.declared.fetch.Fetched.{Fetched}
 use Rattle.state.specs.declared.fetch.Fetched.the-variants as fetch
-use Rattle.state.specs.declared.setup.Refusal.{Refusal}
 use Rattle.state.specs.declared.setup.Setup.{Setup}
 use Rattle.state.specs.declared.setup.Setup.the-variants as setup
 use Rattle.state.specs.declared.stops.Stop.{Stop}

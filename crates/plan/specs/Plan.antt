@@ -23,7 +23,6 @@ use Rattle.permute.specs.Permute.{chosenByImmediate, withElement}
 use Rattle.vectors.specs.Register.{whole, together, filled, element}
 use Rattle.state.specs.declared.control.Mark.{Mark}
 use Rattle.state.specs.declared.control.Mark.the-variants.{Clear, NotTaken, Taken}
-use Rattle.state.specs.declared.stops.Stop.{Stop}
 use Rattle.state.specs.declared.stops.Stop.the-variants.{BranchInSlot, SwitchedOff, NoWindow, ReadOnly, Trap}
 use Rattle.state.specs.declared.windows.Bases.{Bases}
 use Rattle.state.specs.declared.windows.Spot.{Spot}

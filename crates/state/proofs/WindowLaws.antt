@@ -1,18 +1,18 @@
 -- Laws of the place of sixteen bytes in a window, and of the address that is missing.
 use mathlib.Core.Path.{_≡_, refl, sym, ap, _∙_}
-use mathlib.Core.Bool.{Bool, true, false, cond, _&&_}
+use mathlib.Core.Bool.{Bool, true, false, cond}
 use Prim.Native.Nat.{ℕ, zero, suc, _+_, _-_, _%_, _^_, _≤_, _<_}
 use native.Mathlib.Numerals.{unary-clauses}
 use native.Mathlib.Omega.{arith}
 use native.Mathlib.Decide.{decLe}
 use borrow.Author.Tests.{le-leb, lt-leb}
-use lib.Dec.{leb, ltb}
+use lib.Dec.{ltb}
 use Rattle.state.proofs.TestLaws.{and-false, ltb-same}
 use Rattle.state.specs.declared.windows.Bases.{Bases}
 use Rattle.state.specs.declared.windows.Found.{Found}
 use Rattle.state.specs.declared.windows.Found.the-variants.{At, Nowhere}
 use Rattle.state.specs.declared.windows.Spot.the-variants.{Table, Work, Outside}
-use Rattle.state.specs.Windows.{placed, holds, firstOutside, missing, orElse, orWork, spotOf}
+use Rattle.state.specs.Windows.{placed, liesIn, firstOutside, missing, orElse, orWork, spotOf}
 
 module _ (base len a : ℕ) where
   pub placed-at : base ≤ a → a + 16 ≤ base + len → placed base len a ≡ At (a - base)
@@ -38,8 +38,8 @@ module _ (base len a : ℕ) where
 
 module _ (b : Bases) (table work a : ℕ) where
   -- the address that is missing where neither window has all sixteen
-  abbrev lost : ℕ
-  lost = missing b table work a
+  abbrev missingHere : ℕ
+  missingHere = missing b table work a
 
   abbrev inTable : Found
   inTable = placed (b .table) table a
@@ -51,11 +51,11 @@ module _ (b : Bases) (table work a : ℕ) where
   pub spot-table : (i : ℕ) → spotOf b table work a ≡ Table i → i + 16 ≤ table
   spot-table i e = go inTable refl e
     where
-      go : (f : Found) → inTable ≡ f → orElse lost f inWork ≡ Table i → i + 16 ≤ table
+      go : (f : Found) → inTable ≡ f → orElse missingHere f inWork ≡ Table i → i + 16 ≤ table
       go (At j) p q = let h = placed-fits (b .table) table a j p in let s : i ≡ j = cc in omega arith
       go Nowhere p q = go₂ inWork q
         where
-          go₂ : (f : Found) → orWork lost f ≡ Table i → i + 16 ≤ table
+          go₂ : (f : Found) → orWork missingHere f ≡ Table i → i + 16 ≤ table
           go₂ (At j) r = let z : _≡_ {A = ℕ} 0 1 = cc in absurd (omega arith)
           go₂ Nowhere r = let z : _≡_ {A = ℕ} 0 1 = cc in absurd (omega arith)
 
@@ -63,12 +63,12 @@ module _ (b : Bases) (table work a : ℕ) where
       → (b .work ≤ a) × (a + 16 ≤ b .work + work) × (i ≡ a - b .work)
   spot-work i e = go inTable e
     where
-      go : (f : Found) → orElse lost f inWork ≡ Work i
+      go : (f : Found) → orElse missingHere f inWork ≡ Work i
           → (b .work ≤ a) × (a + 16 ≤ b .work + work) × (i ≡ a - b .work)
       go (At j) q = let z : _≡_ {A = ℕ} 0 1 = cc in absurd (omega arith)
       go Nowhere q = go₂ inWork refl q
         where
-          go₂ : (f : Found) → inWork ≡ f → orWork lost f ≡ Work i
+          go₂ : (f : Found) → inWork ≡ f → orWork missingHere f ≡ Work i
               → (b .work ≤ a) × (a + 16 ≤ b .work + work) × (i ≡ a - b .work)
           go₂ (At j) p r = placed-fits (b .work) work a i (cc)
           go₂ Nowhere p r = let z : _≡_ {A = ℕ} 0 1 = cc in absurd (omega arith)
@@ -77,34 +77,34 @@ module _ (b : Bases) (table work a : ℕ) where
   pub spot-outside : (x : ℕ) → spotOf b table work a ≡ Outside x → x ≡ missing b table work a
   spot-outside x e = go inTable inWork e
     where
-      go : (t w : Found) → orElse lost t w ≡ Outside x → x ≡ lost
+      go : (t w : Found) → orElse missingHere t w ≡ Outside x → x ≡ missingHere
       go (At j) w q = let z : _≡_ {A = ℕ} 0 1 = cc in absurd (omega arith)
       go Nowhere (At j) q = let z : _≡_ {A = ℕ} 0 1 = cc in absurd (omega arith)
       go Nowhere Nowhere q = cc
 
 module _ (base len x : ℕ) where
-  pub holds-below : x < base → holds base len x ≡ false
-  unfolding holds
-  holds-below h = simp (lt-leb base x h)
+  pub lies-below : x < base → liesIn base len x ≡ false
+  unfolding liesIn
+  lies-below h = simp (lt-leb base x h)
 
-  pub holds-from : base ≤ x → holds base len x ≡ ltb (x - base) len
-  unfolding holds
-  holds-from h =
+  pub lies-from : base ≤ x → liesIn base len x ≡ ltb (x - base) len
+  unfolding liesIn
+  lies-from h =
       simp (le-leb base x h) (ltb-same x (base + len) (x - base) len (λ k. omega arith) (λ k. omega arith))
 
-  -- one address further, where the window holds this one
-  pub outside-next : (n : ℕ) → holds base len x ≡ true
+  -- one address further, where this one lies in the window
+  pub outside-next : (n : ℕ) → liesIn base len x ≡ true
       → firstOutside (suc n) base len x ≡ firstOutside n base len ((x + 1) % 2 ^ 64)
   unfolding firstOutside
   outside-next n h = simp (h)
 
   -- the same, where n are left
-  pub outside-on : (n y : ℕ) → 0 < n → y ≡ (x + 1) % 2 ^ 64 → holds base len x ≡ true
+  pub outside-on : (n y : ℕ) → 0 < n → y ≡ (x + 1) % 2 ^ 64 → liesIn base len x ≡ true
       → firstOutside (n - 1) base len y ≡ firstOutside n base len x
   outside-on zero y p e h = absurd (omega arith)
   outside-on (suc n) y p e h = simp unary-clauses (ap (firstOutside n base len) e ∙ sym (outside-next n h))
 
-  pub outside-here : (n : ℕ) → holds base len x ≡ false → firstOutside n base len x ≡ x
+  pub outside-here : (n : ℕ) → liesIn base len x ≡ false → firstOutside n base len x ≡ x
   unfolding firstOutside
   outside-here zero h = refl
   outside-here (suc n) h = simp (h)
@@ -114,17 +114,17 @@ module _ (base len x : ℕ) where
   outside-none n e = ap (λ k. firstOutside k base len x) e
 
 module _ (b : Bases) (table work a : ℕ) where
-  pub missing-table : holds (b .table) table a ≡ true
+  pub missing-table : liesIn (b .table) table a ≡ true
       → missing b table work a ≡ firstOutside 16 (b .table) table a
   unfolding missing
   missing-table h = simp (h)
 
-  pub missing-other : holds (b .table) table a ≡ false
+  pub missing-other : liesIn (b .table) table a ≡ false
       → missing b table work a ≡ firstOutside 16 (b .work) work a
   unfolding missing
-  missing-other h = simp (h) (go (holds (b .work) work a) refl)
+  missing-other h = simp (h) (go (liesIn (b .work) work a) refl)
     where
-      go : (w : Bool) → holds (b .work) work a ≡ w
+      go : (w : Bool) → liesIn (b .work) work a ≡ w
           → cond w (firstOutside 16 (b .work) work a) a ≡ firstOutside 16 (b .work) work a
       go true p = refl
       go false p = sym (outside-here (b .work) work a 16 p)

@@ -13,21 +13,22 @@ use Rattle.state.specs.declared.windows.Spot.the-variants.{Table, Work, 
 unfoldable pub placed : ℕ → ℕ → ℕ → Found
 placed base len a = cond (leb base a && leb (a + 16) (base + len)) (At (a - base)) Nowhere
 
--- whether a window of len bytes from base holds the address x
-unfoldable pub holds : ℕ → ℕ → ℕ → Bool
-holds base len x = leb base x && ltb x (base + len)
+-- whether the address x lies in a window of len bytes from base
+unfoldable pub liesIn : ℕ → ℕ → ℕ → Bool
+liesIn base len x = leb base x && ltb x (base + len)
 
--- of n addresses from a, counted upward modulo 2^64, the first that the window does not hold
+-- of n addresses from a, counted upward modulo 2^64, the first that does not lie in the window (where all n do, the one
+-- after them)
 unfoldable pub firstOutside : ℕ → ℕ → ℕ → ℕ → ℕ
 firstOutside zero base len a = a
-firstOutside (suc n) base len a = cond (holds base len a) (firstOutside n base len ((a + 1) % 2 ^ 64)) a
+firstOutside (suc n) base len a = cond (liesIn base len a) (firstOutside n base len ((a + 1) % 2 ^ 64)) a
 
 -- of the sixteen addresses the first that does not lie in the window holding the first byte, or the first address
 -- itself if no window holds it
 unfoldable pub missing : Bases → ℕ → ℕ → ℕ → ℕ
 missing b table work a =
-    cond (holds (b .table) table a) (firstOutside 16 (b .table) table a)
-    (cond (holds (b .work) work a) (firstOutside 16 (b .work) work a) a)
+    cond (liesIn (b .table) table a) (firstOutside 16 (b .table) table a)
+    (cond (liesIn (b .work) work a) (firstOutside 16 (b .work) work a) a)
 
 -- what the table and the work window say of sixteen addresses of which x is missing where neither has them all
 abbrev pub orWork : ℕ → Found → Spot

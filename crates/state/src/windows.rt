@@ -2,7 +2,7 @@
 // which of them is missing.
 use std::num::wrapping_add_u64;
 ghost use mathlib.Core.Path.{_≡_};
-ghost use Rattle.state.specs.Windows.{placed, holds, firstOutside, missing, spotOf};
+ghost use Rattle.state.specs.Windows.{placed, liesIn, firstOutside, missing, spotOf};
 
 // Where the program, the table and the work window begin.
 pub struct Bases {
@@ -34,9 +34,9 @@ fn find(base: u64, len: usize, a: u64) -> Found
     }
 }
 
-// Whether a window of len bytes from base holds the address x.
-fn held(base: u64, len: usize, x: u64) -> bool
-    ensures { λ r. ⌜ r ≡ holds base len x ⌝ }
+// Whether the address x lies in a window of len bytes from base.
+fn lies_in(base: u64, len: usize, x: u64) -> bool
+    ensures { λ r. ⌜ r ≡ liesIn base len x ⌝ }
 {
     if x < base {
         return false;
@@ -44,14 +44,14 @@ fn held(base: u64, len: usize, x: u64) -> bool
     x - base < len as u64
 }
 
-// Of the sixteen addresses from a the first that a window does not hold.
+// Of the sixteen addresses from a the first that does not lie in a window.
 fn first_outside(base: u64, len: usize, a: u64) -> u64
     ensures { λ r. ⌜ r ≡ firstOutside 16 base len a ⌝ }
 {
     let mut x = a;
     let mut left: u64 = 16;
     while 0 < left {
-        if held(base, len, x) {
+        if lies_in(base, len, x) {
             x = wrapping_add_u64(x, 1);
             left -= 1;
         } else {
@@ -61,12 +61,12 @@ fn first_outside(base: u64, len: usize, a: u64) -> u64
     x
 }
 
-// The first of the sixteen addresses from a that is not in the window holding a. Where neither window holds a, that is
-// a itself, the first outside the work window.
+// The first of the sixteen addresses from a that does not lie in the window holding a. Where neither window holds a,
+// that is a itself, the first outside the work window.
 fn missing_of(bases: Bases, table: usize, work: usize, a: u64) -> u64
     ensures { λ r. ⌜ r ≡ missing bases table work a ⌝ }
 {
-    if held(bases.table, table, a) {
+    if lies_in(bases.table, table, a) {
         return first_outside(bases.table, table, a);
     }
     first_outside(bases.work, work, a)

@@ -21,17 +21,17 @@ loop-again : tie.Need-loop-again Inv-loop μ-loop
 loop-again c =
     let a = c .before .before .before .before .before .args in
     let l = c .before .before .before .before .loop in
-    let held = sym (c .before .before .held .ensures) ∙ c .before .if1 .taken in
+    let lies = sym (c .before .before .lies-in .ensures) ∙ c .before .if1 .taken in
     outside-on (a .base) (a .len) (l .x) (l .left) _ (c .before .before .before .loop-test .taken)
-    (c .wrapping-add-u64 .ensures) held
+    (c .wrapping-add-u64 .ensures) lies
     ∙ l .inv
 
 returns : tie.Need-returns Inv-loop μ-loop
 returns c =
     let a = c .before .before .before .before .args in
     let l = c .before .before .before .loop in
-    let held = sym (c .before .held .ensures) ∙ c .if1 .left in
-    sym (outside-here (a .base) (a .len) (l .x) (l .left) held) ∙ l .inv
+    let lies = sym (c .before .lies-in .ensures) ∙ c .if1 .left in
+    sym (outside-here (a .base) (a .len) (l .x) (l .left) lies) ∙ l .inv
 
 returns-2 : tie.Need-returns-2 Inv-loop μ-loop
 returns-2 c =
