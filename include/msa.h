@@ -62,10 +62,10 @@ enum msa_answer {
     MSA_SPENT = 20 /* a run only, and there before 11 to 19: the count equals the budget */
 };
 
-/* What msa_step and msa_run answer. Read `reason` first. With MSA_NO_WINDOW `missing` is the first of the sixteen addresses,
- * counted upward modulo 2^64, that does not lie in the window holding the first byte, or
- * the first address itself if no window holds it; it may be 0, past a window that ends at
- * 2^64. With every other reason `missing` is 0.
+/* What msa_step and msa_run answer. Read `reason` first. With MSA_NO_WINDOW `missing` is
+ * the first of the sixteen addresses, counted upward modulo 2^64, that does not lie in the
+ * window holding the first byte, or the first address itself if no window holds it; it may
+ * be 0, past a window that ends at 2^64. With every other reason `missing` is 0.
  *
  * C code compiled against the header in which both functions answered a uint64_t keeps
  * working: on x86-64 (System V) a struct of 16 bytes of integers comes back in the

@@ -196,8 +196,8 @@ one-outside {n} {base} {len} {a} {x} {y} f g = go (decLt (f .place) (g .place)) 
         f .is ∙ ap (λ k. (a + k) % 2 ^ 64) same ∙ sym (g .is)
 
 -- limit 4
-windows-apart : (p : List ℕ) (e : Env) (m : Machine) → refusal p e m ≡ Accepted → (a : ℕ) → TableHolds e a → WorkHolds e m a
-    → ⊥
+windows-apart : (p : List ℕ) (e : Env) (m : Machine) → refusal p e m ≡ Accepted → (a : ℕ) → TableHolds e a
+    → WorkHolds e m a → ⊥
 windows-apart p e m ok a t w =
     let rows : First (limits p e m) 0 = rw ok at (first-limit p e m) in
     passes (λ k. omega arith)
