@@ -16,7 +16,7 @@ use Rattle.memory.specs.File.{registerAt}
 use Rattle.state.specs.declared.stops.Stop.the-variants.{Trap}
 use Rattle.state.specs.declared.windows.Spot.{Spot}
 use Rattle.state.specs.declared.windows.Spot.the-variants.{Table, Work, Outside}
-use Rattle.state.specs.Csr.{masked, arms}
+use Rattle.state.specs.Csr.{masked, arms, arming}
 use Rattle.state.specs.Machine.{Env, Machine}
 use Rattle.state.specs.Windows.{spotOf}
 use Rattle.state.proofs.WindowLaws.{spot-work}
@@ -52,11 +52,11 @@ module _ (e : Env) (m : Machine) where
   accessed-there Ld wd a h = loaded-there (spot a) wd h
   accessed-there St wd a h = stored-there a (registerAt (m .vec) wd) (spot a) refl
 
-  control-there : (one? trap? : Bool) (x : ℕ)
-      → Names (cond one? (cond trap? (plan.Stop Trap) (plan.Csr x)) plan.Nothing)
-  control-there true true x = tt
-  control-there true false x = tt
-  control-there false trap? x = tt
+  control-there : (one? trap? : Bool) (bits x : ℕ)
+      → Names (cond one? (cond trap? (plan.Stop (Trap bits)) (plan.Csr x)) plan.Nothing)
+  control-there true true bits x = tt
+  control-there true false bits x = tt
+  control-there false trap? bits x = tt
 
   executed-there : (i : Instr) → Formed i → Names (executed e m i)
   executed-there (instr.Three o df wd ws wt) f = f .0
@@ -74,7 +74,7 @@ module _ (e : Env) (m : Machine) where
   executed-there (instr.Move wd ws) f = f .0
   executed-there (instr.Cfcmsa rd cs) f = f .0
   executed-there (instr.Ctcmsa cd rs) f =
-      let x = masked (generalAt (m .gen) rs) in control-there (eqb (cd .0) 1) (arms x) x
+      let x = masked (generalAt (m .gen) rs) in control-there (eqb (cd .0) 1) (arms x) (arming x) x
   executed-there (instr.Vec o wd ws wt) f = f .0
   executed-there (instr.Fill df wd rs) f = f .0
   executed-there (instr.Count o df wd ws) f = f .0

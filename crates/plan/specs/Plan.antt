@@ -27,7 +27,7 @@ use Rattle.state.specs.declared.stops.Stop.the-variants.{BranchInSlot, Switched
 use Rattle.state.specs.declared.windows.Bases.{Bases}
 use Rattle.state.specs.declared.windows.Spot.{Spot}
 use Rattle.state.specs.declared.windows.Spot.the-variants.{Table, Work, Outside}
-use Rattle.state.specs.Csr.{masked, arms}
+use Rattle.state.specs.Csr.{masked, arms, arming}
 use Rattle.state.specs.Machine.{Env, Machine}
 use Rattle.state.specs.Windows.{spotOf}
 use Rattle.plan.specs.declared.Plan.{Plan}
@@ -53,9 +53,9 @@ loaded (Table i) wd table work = writes wd (number (part table i 16))
 loaded (Work i) wd table work = writes wd (number (part work i 16))
 loaded (Outside x) wd table work = plan.Stop (NoWindow x)
 
--- ST replaces those of the work window
+-- ST replaces those of the work window; into the table it stops, and names its address
 abbrev pub stored : Spot → ℕ → ℕ → Plan
-stored (Table i) a x = plan.Stop ReadOnly
+stored (Table i) a x = plan.Stop (ReadOnly a)
 stored (Work i) a x = plan.Store a (register x)
 stored (Outside y) a x = plan.Stop (NoWindow y)
 
@@ -64,10 +64,11 @@ accessed Ld bases table vectors work wd a = loaded (spotOf bases (length table) 
 accessed St bases table vectors work wd a =
     stored (spotOf bases (length table) (length work) a) a (registerAt vectors wd)
 
--- CTCMSA to MSACSR keeps the bits that exist, and stops where they arm a trap; to another control register it is done
--- and changes nothing
+-- CTCMSA to MSACSR keeps the bits that exist, and stops where they arm a trap, and names those that do; to another
+-- control register it is done and changes nothing
 abbrev pub toControl : ℕ → ℕ → Plan
-toControl cd x = cond (eqb cd 1) (cond (arms (masked x)) (plan.Stop Trap) (plan.Csr (masked x))) plan.Nothing
+toControl cd x =
+    cond (eqb cd 1) (cond (arms (masked x)) (plan.Stop (Trap (arming (masked x)))) (plan.Csr (masked x))) plan.Nothing
 
 -- every branch, taken or not, sets the slot mark
 abbrev pub marked : Bool → ℕ → Mark

@@ -6,6 +6,7 @@ mod branch;
 mod moves;
 pub mod planned;
 pub mod scaled;
+mod trap;
 mod vector;
 mod zero;
 

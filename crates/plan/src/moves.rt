@@ -1,5 +1,7 @@
 // Plans of the moves between files and of loads and stores.
 use crate::Plan;
+use crate::trap::arming;
+use crate::trap::has_trap;
 use isa::Copied;
 use isa::Creg;
 use isa::Greg;
@@ -20,8 +22,6 @@ ghost use Prim.Native.Nat.{_<_};
 ghost use lib.ListN.{length};
 ghost use Rattle.memory.specs.File.{registerAt};
 ghost use Rattle.memory.specs.Value.{value};
-ghost use Rattle.state.specs.Csr.{arms};
-ghost use Rattle.state.specs.Csr as csr;
 ghost use Rattle.state.specs.Windows.{spotOf};
 ghost use Rattle.plan.specs.Numbers.{controlRead, copyOf};
 ghost use Rattle.plan.specs.Plan.{generalAt, loaded, stored, accessed, toControl};
@@ -64,32 +64,13 @@ pub fn from_control(rd: Greg, cs: Creg, csr: u32) -> Plan
     }
 }
 
-fn bit(k: u32, v: u32) -> bool
-    requires { ⌜ k < 32 ⌝ }
-    ensures { λ r. ⌜ r ≡ csr.bit k v ⌝ }
-{
-    (v >> k) % 2 == 1
-}
-
-// Whether a value of MSACSR arms a float trap.
-fn has_trap(v: u32) -> bool
-    ensures { λ r. ⌜ r ≡ arms v ⌝ }
-{
-    bit(17, v)
-        | (bit(16, v) & bit(11, v))
-        | (bit(15, v) & bit(10, v))
-        | (bit(14, v) & bit(9, v))
-        | (bit(13, v) & bit(8, v))
-        | (bit(12, v) & bit(7, v))
-}
-
 pub fn to_control(cd: Creg, x: u64) -> Plan
     ensures { λ r. ⌜ r ≡ toControl (cd .0) x ⌝ }
 {
     if cd.0 == 1 {
         let v = mask(x);
         if has_trap(v) {
-            return Plan::Stop(Stop::Trap);
+            return Plan::Stop(Stop::Trap(arming(v)));
         }
         return Plan::Csr(v);
     }
@@ -112,7 +93,7 @@ fn store(wd: Vreg, a: u64, bases: Bases, table: usize, work: usize, vectors: &[u
     ensures { λ r. ⌜ r ≡ stored (spotOf bases table work a) a (registerAt (now (vectors .entry)) wd) ⌝ }
 {
     match locate(bases, table, work, a) {
-        Spot::Table(_) => Plan::Stop(Stop::ReadOnly),
+        Spot::Table(_) => Plan::Stop(Stop::ReadOnly(a)),
         Spot::Work(_) => Plan::Store(a, read_register(vectors, wd)),
         Spot::Outside(x) => Plan::Stop(Stop::NoWindow(x)),
     }

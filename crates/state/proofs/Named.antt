@@ -1,4 +1,4 @@
--- The refusal and the stop that document 01's numbers name, with the address that 17 carries: no two say the same.
+-- The refusal and the stop that document 01's numbers name, with what a stop carries: no two say the same.
 -- Assumes nothing.
 use mathlib.Core.Path.{_≡_, refl}
 use mathlib.Core.Bool.{cond}
@@ -9,7 +9,7 @@ use Rattle.state.specs.declared.setup.Refusal.{Refusal}
 use Rattle.state.specs.declared.setup.Refusal.the-variants as refusal
 use Rattle.state.specs.declared.stops.Stop.{Stop}
 use Rattle.state.specs.declared.stops.Stop.the-variants as stop
-use Rattle.state.specs.Numbers.{refusalNumber, stopNumber, stopMissing}
+use Rattle.state.specs.Numbers.{refusalNumber, stopNumber, stopCarried}
 
 -- what a number stands for in the two tables of document 01
 pub data Named : Type 0 where
@@ -17,7 +17,7 @@ pub data Named : Type 0 where
   stopped : Stop → Named
   neither : Named
 
--- the number n with the address x
+-- the number n, carrying x
 abbrev orStop : ℕ → ℕ → Named
 orStop n x =
     cond (eqb n 11) (stopped stop.NoWord)
@@ -27,7 +27,7 @@ orStop n x =
     (cond (eqb n 15) (stopped stop.BranchInSlot)
     (cond (eqb n 16) (stopped stop.SwitchedOff)
     (cond (eqb n 17) (stopped (stop.NoWindow x))
-    (cond (eqb n 18) (stopped stop.ReadOnly) (cond (eqb n 19) (stopped stop.Trap) neither))))))))
+    (cond (eqb n 18) (stopped (stop.ReadOnly x)) (cond (eqb n 19) (stopped (stop.Trap x)) neither))))))))
 
 abbrev pub named : ℕ → ℕ → Named
 named n x =
@@ -43,7 +43,7 @@ named-refusal refusal.WindowSize x = refl
 named-refusal refusal.SharedAddress x = refl
 named-refusal refusal.State x = refl
 
-pub named-stop : (s : Stop) → named (stopNumber s) (stopMissing s) ≡ stopped s
+pub named-stop : (s : Stop) → named (stopNumber s) (stopCarried s) ≡ stopped s
 named-stop stop.NoWord = refl
 named-stop (stop.Unread unread.Unassigned) = refl
 named-stop (stop.Unread unread.LeftOut) = refl
@@ -51,5 +51,5 @@ named-stop (stop.Unread unread.Other) = refl
 named-stop stop.BranchInSlot = refl
 named-stop stop.SwitchedOff = refl
 named-stop (stop.NoWindow x) = refl
-named-stop stop.ReadOnly = refl
-named-stop stop.Trap = refl
+named-stop (stop.ReadOnly x) = refl
+named-stop (stop.Trap bits) = refl

@@ -1,5 +1,6 @@
--- Document 01's number of each refusal and of each stop, and the address that 17 carries (request 3/12). The promises
--- of set-up, a step and a run are stated through these.
+-- Document 01's number of each refusal and of each stop, and what a stop carries: the address of request 3/12, and the
+-- facts behind 18 and 19 of request 6/12. The promises of set-up, a step, a run and the call of 6/12 are stated through
+-- these.
 use Prim.Native.Nat.{ℕ}
 use Rattle.isa.specs.Numbers.{unreadNumber}
 use Rattle.state.specs.declared.setup.Refusal.{Refusal}
@@ -20,8 +21,18 @@ stopNumber (stop.Unread u) = unreadNumber u
 stopNumber stop.BranchInSlot = 15
 stopNumber stop.SwitchedOff = 16
 stopNumber (stop.NoWindow x) = 17
-stopNumber stop.ReadOnly = 18
-stopNumber stop.Trap = 19
+stopNumber (stop.ReadOnly x) = 18
+stopNumber (stop.Trap bits) = 19
+
+-- what it carries, and 0 where it carries nothing
+abbrev pub stopCarried : Stop → ℕ
+stopCarried stop.NoWord = 0
+stopCarried (stop.Unread u) = 0
+stopCarried stop.BranchInSlot = 0
+stopCarried stop.SwitchedOff = 0
+stopCarried (stop.NoWindow x) = x
+stopCarried (stop.ReadOnly x) = x
+stopCarried (stop.Trap bits) = bits
 
 -- the missing address, and 0 for every other reason
 abbrev pub stopMissing : Stop → ℕ
@@ -30,5 +41,5 @@ stopMissing (stop.Unread u) = 0
 stopMissing stop.BranchInSlot = 0
 stopMissing stop.SwitchedOff = 0
 stopMissing (stop.NoWindow x) = x
-stopMissing stop.ReadOnly = 0
-stopMissing stop.Trap = 0
+stopMissing (stop.ReadOnly x) = 0
+stopMissing (stop.Trap bits) = 0

@@ -10,6 +10,8 @@ pub enum Stop {
     SwitchedOff,
     // the first address that is missing
     NoWindow(u64),
-    ReadOnly,
-    Trap,
+    // the first address of the store
+    ReadOnly(u64),
+    // the bits of the value that arm it
+    Trap(u32),
 }
