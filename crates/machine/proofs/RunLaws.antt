@@ -20,7 +20,7 @@ use Rattle.machine.specs.declared.step.Outcome.the-variants.{Finished, S
 use Rattle.machine.specs.declared.step.Stepped.{Stepped}
 use Rattle.machine.specs.declared.run.Reason.{Reason}
 use Rattle.machine.specs.declared.run.Reason.the-variants as reason
-use Rattle.machine.specs.Numbers.{reasonNumber, reasonMissing}
+use Rattle.machine.specs.Numbers.{reasonNumber, reasonCarried}
 use Rattle.machine.specs.Run.{Run, RunIs, runs, adding, ended}
 use Rattle.machine.specs.Step.{Result, StepIs, stepOf, concluded, decided, attempted}
 
@@ -86,7 +86,7 @@ ends-is : (whole : Run) (why : Reason) (count : ℕ) (m : Machine) → adding co
 ends-is whole why count m ends =
     record {
       reason = ap (λ x. reasonNumber (x .reason)) ends;
-      missing = ap (λ x. reasonMissing (x .reason)) ends;
+      carried = ap (λ x. reasonCarried (x .reason)) ends;
       count = sym (add-zero count) ∙ ap (λ x. x .count) ends;
       control = ap (λ x. x .after .ctl) ends;
       vec = ap (λ x. x .after .vec) ends;
@@ -118,7 +118,7 @@ module _ (p : List ℕ) (e : Env) (budget count : ℕ) (m : Machine) (whole : Ru
       in
       record {
         reason = r .reason;
-        missing = r .missing;
+        carried = r .carried;
         count = r .count;
         control = r .control;
         vec = s .vec ∙ ap (λ y. y .vec) kept ∙ r .vec;

@@ -7,7 +7,7 @@ use Rattle.state.specs.Machine.{Machine}
 use Rattle.machine.specs.declared.step.Stepped.{Stepped}
 use Rattle.machine.specs.declared.step.Answer.the-variants.{Ran}
 use Rattle.machine.specs.declared.step.Answered.{Answered}
-use Rattle.machine.specs.Numbers.{answerNumber, answerMissing}
+use Rattle.machine.specs.Numbers.{answerNumber, answerCarried}
 use Rattle.machine.specs.Step.{Result, StepIs, WholeIs, stops, stoppedWith, ranAs}
 
 pub stopped-is : (s : Stop) (m : Machine) (r : Stepped) → r ≡ stoppedWith s (m .ctl) → StepIs (stops s m) r (m .vec) (m .gen) (m .work)
@@ -19,7 +19,7 @@ ran-is s t r v g w i e =
     let same = ap (λ x. x .answer) e ∙ ap Ran (i .outcome) in
     record {
       answer = ap answerNumber same;
-      missing = ap answerMissing same;
+      carried = ap answerCarried same;
       control = ap (λ x. x .control) e ∙ i .control;
       vec = i .vec;
       gen = i .gen;

@@ -11,7 +11,7 @@ use Rattle.machine.specs.declared.run.Reason.{Reason}
 use Rattle.machine.specs.declared.run.Reason.the-variants as reason
 use Rattle.machine.specs.declared.step.Outcome.{Outcome}
 use Rattle.machine.specs.declared.step.Outcome.the-variants.{Finished, Stopped}
-use Rattle.machine.specs.Numbers.{reasonNumber, reasonMissing}
+use Rattle.machine.specs.Numbers.{reasonNumber, reasonCarried}
 use Rattle.machine.specs.Step.{stepOf}
 
 -- the reason, the count of finished instructions and the machine after the last of them
@@ -47,7 +47,7 @@ wholeRun program e budget m = admitted (refusal program e m) (runs program e bud
 -- the code's answer for a run, and what the lent memory holds then
 pub record RunIs (s : Run) (r : Ended) (v g w : List ℕ) : Type 0 where
   pub reason : reasonNumber (r .reason) ≡ reasonNumber (s .reason)
-  pub missing : reasonMissing (r .reason) ≡ reasonMissing (s .reason)
+  pub carried : reasonCarried (r .reason) ≡ reasonCarried (s .reason)
   pub count : r .count ≡ s .count
   pub control : r .control ≡ s .after .ctl
   pub vec : v ≡ s .after .vec

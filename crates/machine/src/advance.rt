@@ -1,10 +1,9 @@
-// One step of a set-up that was accepted: fetch, read, plan, do. A word that reads as no instruction goes no further than 12 to 14.
-use crate::effect;
+// One step of a set-up that was accepted: fetch, read, act. A word that reads as no instruction goes no further than 12
+// to 14.
+use crate::act::act;
 use crate::step::Outcome;
 use crate::step::Stepped;
 use isa::Read;
-use plan::Plan;
-use plan::planned;
 use reading::read_word;
 use state::control::Control;
 use state::fetch;
@@ -13,42 +12,8 @@ use state::stops::Stop;
 use state::windows::Bases;
 ghost use mathlib.Core.Path.{_≡_};
 ghost use lib.ListN.{length};
-ghost use Rattle.plan.specs.There.{There};
 ghost use Rattle.state.specs.Machine.{env, machine};
-ghost use Rattle.machine.specs.Step.{outcomeOf, unreadStop, stoppedWith, concluded, stepOf, StepIs};
-
-fn outcome_of(p: Plan) -> Outcome
-    ensures { λ r. ⌜ r ≡ outcomeOf p ⌝ }
-{
-    match p {
-        Plan::Stop(s) => Outcome::Stopped(s),
-        Plan::Nothing => Outcome::Finished,
-        Plan::Vector(_, _) => Outcome::Finished,
-        Plan::General(_, _) => Outcome::Finished,
-        Plan::Store(_, _) => Outcome::Finished,
-        Plan::Csr(_) => Outcome::Finished,
-        Plan::Branch(_) => Outcome::Finished,
-    }
-}
-
-// Does what the plan says; a plan to stop changes nothing.
-fn conclude(
-    p: Plan,
-    bases: Bases,
-    vectors: &mut [u8],
-    generals: &mut [u8],
-    work: &mut [u8],
-    c: Control,
-) -> Stepped
-    requires { ⌜ (length (now vectors) ≡ 512) × (length (now generals) ≡ 256) × There (bases .work) (length (now work)) p ⌝ }
-    ensures { λ r. ⌜ StepIs (concluded (bases .work) p (machine (now (vectors .entry)) (now (generals .entry)) (now (work .entry)) c)) r (now (vectors .exit)) (now (generals .exit)) (now (work .exit)) ⌝ }
-{
-    effect::apply(p, bases.work, vectors, generals, work);
-    Stepped {
-        outcome: outcome_of(p),
-        control: effect::control_after(p, c),
-    }
-}
+ghost use Rattle.machine.specs.Step.{unreadStop, stoppedWith, stepOf, StepIs};
 
 // A stop of an accepted step: nothing is changed.
 fn stopped(s: Stop, c: Control) -> Stepped
@@ -90,6 +55,5 @@ pub fn advance(
     let Read::Instr(i) = reading else {
         return stopped(unread_stop(reading), c);
     };
-    let p = planned::plan_of(i, bases, table, vectors, generals, work, c);
-    conclude(p, bases, vectors, generals, work, c)
+    act(i, bases, table, vectors, generals, work, c)
 }

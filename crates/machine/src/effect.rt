@@ -1,4 +1,6 @@
-// The one function that changes lent memory, and the control block brought forward.
+// What a plan comes to: the outcome of its step, the lent memory after it (`apply` is the one function that changes
+// any), and the control block brought forward.
+use crate::step::Outcome;
 use isa::Greg;
 use memory::file::write_register;
 use plan::Plan;
@@ -9,7 +11,23 @@ ghost use mathlib.Core.Path.{_≡_};
 ghost use Prim.Native.Nat.{_<_};
 ghost use lib.ListN.{length};
 ghost use Rattle.plan.specs.There.{There};
+ghost use Rattle.machine.specs.Step.{outcomeOf};
 ghost use Rattle.machine.specs.Effect.{withGeneral, vectorsAfter, generalsAfter, workAfter, pcAfter, forwarded, controlAfter};
+
+// How a step with this plan ends.
+pub fn outcome_of(p: Plan) -> Outcome
+    ensures { λ r. ⌜ r ≡ outcomeOf p ⌝ }
+{
+    match p {
+        Plan::Stop(s) => Outcome::Stopped(s),
+        Plan::Nothing => Outcome::Finished,
+        Plan::Vector(_, _) => Outcome::Finished,
+        Plan::General(_, _) => Outcome::Finished,
+        Plan::Store(_, _) => Outcome::Finished,
+        Plan::Csr(_) => Outcome::Finished,
+        Plan::Branch(_) => Outcome::Finished,
+    }
+}
 
 // Writes general register r; a write to register 0 is dropped.
 fn write_general(generals: &mut [u8], r: Greg, x: u64)

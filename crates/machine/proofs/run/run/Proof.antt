@@ -19,7 +19,7 @@ returns c = rw (← setup-is (c .before .before .before .before .before .before 
 returns-2 : tie.Need-returns-2
 returns-2 c =
     rw (← setup-is (c .before .before .before .check .ensures), c .before .r .given .1)
-    (record { reason = refl; missing = refl; count = refl; control = refl; vec = refl; gen = refl; work = refl })
+    (record { reason = refl; carried = refl; count = refl; control = refl; vec = refl; gen = refl; work = refl })
 
 pub run-spec : {M : Type 1} → statement M
 run-spec =

@@ -20,7 +20,7 @@ returns c = rw (← setup-is (c .before .before .before .before .before .before 
 returns-2 : tie.Need-returns-2
 returns-2 c =
     rw (← setup-is (c .before .before .before .check .ensures), c .before .r .given .1)
-    (record { answer = refl; missing = refl; control = refl; vec = refl; gen = refl; work = refl })
+    (record { answer = refl; carried = refl; control = refl; vec = refl; gen = refl; work = refl })
 
 pub step-spec : {M : Type 1} → statement M
 step-spec =

@@ -1,7 +1,7 @@
--- `machine::advance::outcome_of`: by the plan. Assumes nothing.
+-- `machine::effect::outcome_of`: by the plan. Assumes nothing.
 use borrow.Author.Needs.{needs}
-use Rattle.machine.proofs.advance.outcome_of.Statement.{statement}
-use Rattle.machine.proofs.advance.outcome_of.Tie as tie
+use Rattle.machine.proofs.effect.outcome_of.Statement.{statement}
+use Rattle.machine.proofs.effect.outcome_of.Tie as tie
 
 pub outcome-of-spec : {M : Type 1} → statement M
 outcome-of-spec =
