@@ -1,6 +1,6 @@
 /* Announces soundings: for each ping it lends the emulator a kernel's words and the
  * ping's echo samples, runs the kernel, and prints the sounding that the kernel left,
- * or why there is none.
+ * or why there is none, in lines that can be read aloud.
  *
  *     announce WORDS PINGS [BUDGET]
  *
@@ -33,28 +33,6 @@ static uint8_t program[MSA_WORD_BYTES * MOST_WORDS];
 static size_t program_bytes;
 
 static const uint8_t table[16] = {0, 1, 2, 3, 4, 5, 6, 7, 8, 9, 10, 11, 12, 13, 14, 15};
-
-/* the name of each reason */
-static const char *name(uint32_t reason) {
-    switch (reason) {
-    case MSA_REFUSED_REGISTERS: return "refused: registers";
-    case MSA_REFUSED_PROGRAM: return "refused: program";
-    case MSA_REFUSED_WINDOW: return "refused: window size";
-    case MSA_REFUSED_SHARED: return "refused: shared address";
-    case MSA_REFUSED_STATE: return "refused: state";
-    case MSA_NO_WORD: return "end of the kernel";
-    case MSA_UNASSIGNED: return "unassigned word";
-    case MSA_LEFT_OUT: return "word left out";
-    case MSA_OTHER_WORD: return "other word";
-    case MSA_BRANCH_IN_SLOT: return "branch in a slot";
-    case MSA_SWITCHED_OFF: return "MSA switched off";
-    case MSA_NO_WINDOW: return "missing byte";
-    case MSA_READ_ONLY: return "store into the table";
-    case MSA_TRAP: return "float trap armed";
-    case MSA_SPENT: return "budget spent";
-    default: return "unknown";
-    }
-}
 
 /* little-endian, on any host */
 static void put(uint8_t *at, unsigned bytes, uint64_t x) {
@@ -98,6 +76,19 @@ static int read_line(FILE *f, char *line, size_t size) {
     return c != EOF || n != 0;
 }
 
+static void say(uint32_t reason) { printf("    reason %" PRIu32 ": %s\n", reason, msa_reason_text(reason)); }
+
+/* why a run ended before the end of the kernel, in lines to be read aloud; why is of the bytes that the run left */
+static void explain(uint32_t reason, struct msa_why why) {
+    say(reason);
+    if (reason == MSA_SPENT) {
+        printf("    The next instruction would %sbe done.\n", why.number == MSA_FINISHED ? "" : "not ");
+        if (why.number != MSA_FINISHED) say(why.number);
+    }
+    if (why.number >= MSA_UNASSIGNED) printf("    word: %08" PRIX32 "\n", why.word);
+    if (why.kind != MSA_KIND_NOTHING) printf("    fact: %s, 0x%" PRIX64 "\n", msa_kind_text(why.kind), why.fact);
+}
+
 /* Runs the kernel on a ping. Answers 1 and the result where the cell holds this ping's own; else 0. */
 static int sound(uint16_t number, const uint8_t samples[SAMPLES], uint32_t budget, unsigned *result) {
     uint8_t vectors[MSA_VECTORS_BYTES] = {0}, generals[MSA_GENERALS_BYTES] = {0}, control[MSA_CONTROL_BYTES] = {0};
@@ -117,9 +108,9 @@ static int sound(uint16_t number, const uint8_t samples[SAMPLES], uint32_t budge
     struct msa_ended end = msa_run(program, program_bytes, 0, table, sizeof table, TABLE, vectors, sizeof vectors,
                                    generals, sizeof generals, work, sizeof work, WORK, control, sizeof control, budget);
     if (end.reason != MSA_NO_WORD) {
-        printf("ping %u: no sounding (%" PRIu32 ", %s", number, end.reason, name(end.reason));
-        if (end.reason == MSA_NO_WINDOW) printf(" at 0x%" PRIX64, end.missing);
-        printf(", after %" PRIu32 " instructions)\n", end.count);
+        printf("ping %u: no sounding (%" PRIu32 ", after %" PRIu32 " instructions)\n", number, end.reason, end.count);
+        explain(end.reason, msa_why(program, program_bytes, 0, table, sizeof table, TABLE, vectors, sizeof vectors,
+                                    generals, sizeof generals, work, sizeof work, WORK, control, sizeof control));
         return 0;
     }
     for (int i = 2; i < CELL; i += 2)

@@ -1,11 +1,13 @@
 /* The C entry of Szafranosz: one step or one run of the integer subset of the
- * MIPS64 SIMD Architecture, rev. 1.12. The layout of the lent bytes is described in
- * docs/LAYOUT.md; all numbers in them are little-endian.
+ * MIPS64 SIMD Architecture, rev. 1.12, and why the next step would stop. The layout of the
+ * lent bytes is described in docs/LAYOUT.md; all numbers in them are little-endian.
  *
- * Link with target/staticlib/libentry.a (`rt staticlib entry`, x86-64). Both functions
- * are pure but for the bytes lent to them: they allocate nothing, keep nothing
- * and call nothing. No pointer may be null, also not with a length of 0, and a slice
- * that is lent for writing must overlap no other.
+ * Link with target/staticlib/libentry.a (`rt staticlib entry`, x86-64). The three functions
+ * msa_step, msa_run and msa_why are pure but for the bytes lent to them: they allocate
+ * nothing, keep nothing and call nothing, but for memcpy and memset, which msa_why may call;
+ * it is lent every byte for reading only. No pointer may be null, also not with a length of
+ * 0, and a slice that is lent for writing must overlap no other. The texts at the end are of
+ * this header alone, not of the archive.
  */
 #ifndef MSA_H
 #define MSA_H
@@ -40,7 +42,7 @@ enum { MSA_SWITCH_OFF = 0, MSA_SWITCH_ON = 1 };
 
 /* the reasons that come back */
 enum msa_answer {
-    MSA_FINISHED = 0, /* a step only */
+    MSA_FINISHED = 0, /* not of a run: the step is finished, or of msa_why: it would be */
 
     /* the set-up is refused; no byte is changed */
     MSA_REFUSED_REGISTERS = 1, /* vectors are not 512 bytes, or generals not 256 */
@@ -67,7 +69,7 @@ enum msa_answer {
  * window holding the first byte, or the first address itself if no window holds it; it may
  * be 0, past a window that ends at 2^64. With every other reason `missing` is 0.
  *
- * C code compiled against the header in which both functions answered a uint64_t keeps
+ * C code compiled against a header in which these two answered a uint64_t keeps
  * working: on x86-64 (System V) a struct of 16 bytes of integers comes back in the
  * registers rax and rdx, the arguments stand where they stood, and rax is what it was, the
  * reason of a step, reason + 2^32 * count of a run. Such code does not look at rdx, where
@@ -82,6 +84,26 @@ struct msa_ended {
     uint32_t reason; /* of enum msa_answer */
     uint32_t count; /* of finished instructions */
     uint64_t missing;
+};
+
+/* what the fact of a struct msa_why is */
+enum msa_kind {
+    MSA_KIND_NOTHING = 0, /* there is none: of MSA_FINISHED and of the refusals */
+    MSA_KIND_COUNTER = 1, /* of 11: the program counter */
+    MSA_KIND_WORD = 2, /* of 12 to 15: the word at the program counter */
+    MSA_KIND_SWITCH = 3, /* of 16: the MSA switch, MSA_SWITCH_OFF */
+    MSA_KIND_ADDRESS = 4, /* of 17: `missing` of msa_step; of 18: the first address of the store */
+    MSA_KIND_TRAP = 5 /* of 19, of the value for MSACSR: bit 17 if set, else those of 16 to 12 that 11 to 7 share */
+};
+
+/* What msa_why answers. Read `number` first: it says whether there are a word and a fact; each may be 0 and still be
+ * there (the word 0 is no instruction, 14; the address 0 may be the one that is missing, 17).
+ */
+struct msa_why {
+    uint16_t number; /* of enum msa_answer: what msa_step would answer, so never MSA_SPENT */
+    uint16_t kind; /* of enum msa_kind: what the fact is */
+    uint32_t word; /* with 12 to 19 the word at the program counter, else 0 */
+    uint64_t fact; /* with 11 to 19, else 0 */
 };
 
 /* One step. Its reason is MSA_FINISHED, or why the instruction was not finished; then no byte is changed. */
@@ -100,6 +122,71 @@ struct msa_ended msa_run(const uint8_t *program, size_t program_bytes, uint64_t 
                          uint8_t *work, size_t work_bytes, uint64_t work_base,
                          uint8_t *control, size_t control_bytes,
                          uint32_t budget);
+
+/* Why the next step would stop, or that it would not; no byte is changed. Of the bytes that a run left it names the
+ * reason of that run, with its word and fact; after MSA_SPENT it says what would come next.
+ */
+struct msa_why msa_why(const uint8_t *program, size_t program_bytes, uint64_t program_base,
+                       const uint8_t *table, size_t table_bytes, uint64_t table_base,
+                       const uint8_t *vectors, size_t vectors_bytes,
+                       const uint8_t *generals, size_t generals_bytes,
+                       const uint8_t *work, size_t work_bytes, uint64_t work_base,
+                       const uint8_t *control, size_t control_bytes);
+
+/* A reason in one sentence that can be read aloud. In it the kernel is the program that was lent, the host program
+ * the caller, and the memory windows are the table and the work window.
+ */
+static inline const char *msa_reason_text(uint32_t number) {
+    switch (number) {
+    case MSA_FINISHED:
+        return "No stop: the instruction is done, or would be done next.";
+    case MSA_REFUSED_REGISTERS:
+        return "The host program lent vector registers that are not 512 bytes, or general registers that are not 256.";
+    case MSA_REFUSED_PROGRAM:
+        return "The host program lent a kernel of broken words, of over 65,536 words, or at an address it cannot have.";
+    case MSA_REFUSED_WINDOW:
+        return "The host program lent a memory window of over 1,048,576 bytes, or one that passes the last address.";
+    case MSA_REFUSED_SHARED:
+        return "The host program lent two memory windows, table and work, that share an address.";
+    case MSA_REFUSED_STATE:
+        return "The host program lent a register 0 that is not zero, or a control block that is not as laid down.";
+    case MSA_NO_WORD:
+        return "The program counter is at no word of the kernel: this is how a kernel usually ends.";
+    case MSA_UNASSIGNED:
+        return "The kernel is wrong or damaged: its next word is a vector word (MSA) that the manual gives no meaning.";
+    case MSA_LEFT_OUT:
+        return "The kernel needs a vector instruction (MSA) of the manual that this emulator leaves out.";
+    case MSA_OTHER_WORD:
+        return "The kernel is wrong or damaged: its next word is no vector word (MSA), and not LSA, DLSA, BZ or BNZ.";
+    case MSA_BRANCH_IN_SLOT:
+        return "The kernel is wrong: it has a branch in the place right behind another branch, where none may stand.";
+    case MSA_SWITCHED_OFF:
+        return "The next instruction needs the vector unit (MSA), which the host program has switched off.";
+    case MSA_NO_WINDOW:
+        return "The kernel wants to read or write sixteen bytes that do not all lie in one memory window.";
+    case MSA_READ_ONLY:
+        return "The kernel wants to write into the table, the memory window that is for reading only.";
+    case MSA_TRAP:
+        return "The kernel wants to arm a floating-point trap in the control register MSACSR; there are no traps here.";
+    case MSA_SPENT:
+        return "All instructions that the host program allowed are done: it allowed too few, or the kernel never ends.";
+    default:
+        return "No reason has this number.";
+    }
+}
+
+/* what the fact is, in a few words */
+static inline const char *msa_kind_text(uint32_t kind) {
+    switch (kind) {
+    case MSA_KIND_NOTHING: return "no fact";
+    case MSA_KIND_COUNTER: return "the program counter";
+    case MSA_KIND_WORD: return "the word at the program counter";
+    case MSA_KIND_SWITCH: return "the MSA switch";
+    case MSA_KIND_ADDRESS: return "the address at fault";
+    case MSA_KIND_TRAP: return "the bits that arm the trap";
+    default: return "no kind of fact has this number";
+    }
+}
 
 #ifdef __cplusplus
 }

@@ -6,11 +6,16 @@ use Prim.Native.Nat.{ℕ}
 use lib.Dec.{eqb, ltb}
 use Rattle.machine.specs.declared.run.Ended.{Ended}
 use Rattle.machine.specs.declared.step.Answered.{Answered}
+use Rattle.machine.specs.declared.why.Cause.{Cause}
 use Rattle.machine.specs.Numbers.{answerNumber, reasonNumber, answerMissing, reasonMissing}
 use Rattle.machine.specs.Run.{Run, RunIs}
 use Rattle.machine.specs.Step.{Whole, WholeIs}
+use Rattle.machine.specs.Why.{WhyIs}
+use Rattle.machine.proofs.Said.{answer-is, reason-is, why-is}
 use Rattle.entry.specs.Block.{written}
 use Rattle.entry.specs.Entry.{StepsTo, RunsTo}
+use Rattle.entry.specs.Why.{answerKind, explained}
+use Rattle.entry.specs.declared.MsaWhy.{MsaWhy}
 
 module _ (v g w b b′ : List ℕ) where
   pub steps-to : (s : Whole) (a : Answered) (n x : ℕ) → WholeIs s a v g w
@@ -21,7 +26,7 @@ module _ (v g w b b′ : List ℕ) where
       let number : n ≡ answerNumber (s .answer) = e ∙ i .answer in
       record {
         reason = number;
-        missing = f ∙ i .missing;
+        missing = f ∙ ap answerMissing (answer-is i);
         vec = i .vec;
         gen = i .gen;
         work = i .work;
@@ -37,10 +42,16 @@ module _ (v g w b b′ : List ℕ) where
       record {
         reason = e ∙ i .reason;
         count = i .count;
-        missing = f ∙ i .missing;
+        missing = f ∙ ap reasonMissing (reason-is i);
         vec = i .vec;
         gen = i .gen;
         work = i .work;
         control = h ∙ ap (λ k. cond (ltb 0 k) (written (a .control) b) b) (i .count)
             ∙ ap (λ c. cond (ltb 0 (s .count)) (written c b) b) (i .control);
       }
+
+-- the number n and the kind k of what the machine answers
+pub explains : (s a : Cause) (n k : ℕ) → WhyIs s a → n ≡ answerNumber (a .answer) → k ≡ answerKind (a .answer)
+    → record { number = n; kind = k; word = a .word; fact = a .fact } ≡ explained s
+explains s a n k i e f =
+    (λ j. record { number = e j; kind = f j; word = a .word; fact = a .fact }) ∙ ap explained (why-is i)

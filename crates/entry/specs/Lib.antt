@@ -3,3 +3,4 @@ pub mod Entry
 pub mod Kept
 pub mod Layout
 pub mod OneAnswer
+pub mod Why

@@ -1,5 +1,6 @@
-// The C entry: one step or one run on numbers and byte slices. The slices go on to the machine as they are lent, so that no register and no
-// program word is copied; only the control block is read from its bytes and written back.
+// The C entry: one step, one run, or why the next step would stop, on numbers and byte slices. The slices go on to the
+// machine as they are lent, so that no register and no program word is copied; only the control block is read from its
+// bytes and, by a step or a run, written back.
 mod block;
 mod numbers;
 
@@ -8,8 +9,10 @@ ghost use mathlib.Core.Path.{_≡_};
 ghost use Rattle.state.specs.Machine.{env, machine};
 ghost use Rattle.machine.specs.Run.{wholeRun};
 ghost use Rattle.machine.specs.Step.{wholeStep};
+ghost use Rattle.machine.specs.Why.{whyOf};
 ghost use Rattle.entry.specs.Block.{decoded};
 ghost use Rattle.entry.specs.Entry.{bases, StepsTo, RunsTo};
+ghost use Rattle.entry.specs.Why.{explained};
 
 // What C gets of a step: 0 where it is finished, else the number of the refusal or of the stop; and with 17 the address
 // that is missing, with every other number 0.
@@ -25,6 +28,16 @@ pub struct MsaEnded {
     pub reason: u32,
     pub count: u32,
     pub missing: u64,
+}
+
+// What C gets of the call that says why the next step would stop: the number that `msa_step` would answer; what kind of
+// fact stands behind a stop, 0 where there is none; the word at the program counter; and the fact.
+#[repr(C)]
+pub struct MsaWhy {
+    pub number: u16,
+    pub kind: u16,
+    pub word: u32,
+    pub fact: u64,
 }
 
 // One step.
@@ -89,5 +102,39 @@ pub extern "C" fn msa_run(
         reason: numbers::reason_number(reason) as u32,
         count: end.count,
         missing: numbers::reason_missing(reason),
+    }
+}
+
+// Why the next step would stop, or that it would not.
+#[no_mangle]
+pub extern "C" fn msa_why(
+    program: &[u8],
+    program_base: u64,
+    table: &[u8],
+    table_base: u64,
+    vectors: &[u8],
+    generals: &[u8],
+    work: &[u8],
+    work_base: u64,
+    control: &[u8],
+) -> MsaWhy
+    ensures { λ r. ⌜ r ≡ explained (whyOf (now (program .entry))
+        (env (bases «program_base» «table_base» «work_base») (now (table .entry)))
+        (machine (now (vectors .entry)) (now (generals .entry)) (now (work .entry))
+        (decoded (now (control .entry))))) ⌝ }
+{
+    let bases = Bases {
+        program: program_base,
+        table: table_base,
+        work: work_base,
+    };
+    let c = block::control_of(control);
+    let y = machine::why::why(bases, program, table, vectors, generals, work, c);
+    let answer = y.answer;
+    MsaWhy {
+        number: numbers::answer_number(answer) as u16,
+        kind: numbers::answer_kind(answer) as u16,
+        word: y.word,
+        fact: y.fact,
     }
 }

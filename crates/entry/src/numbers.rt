@@ -1,5 +1,5 @@
-// Document 01's numbers of the answers, and the address that 17 carries, in code: the C entry has no other way to say
-// them.
+// Document 01's numbers of the answers, the address that 17 names, and which kind of fact stands behind a stop, in
+// code: the C entry has no other way to say them.
 use isa::Unread;
 use machine::run::Reason;
 use machine::step::Answer;
@@ -10,7 +10,8 @@ ghost use mathlib.Core.Path.{_≡_};
 ghost use Rattle.isa.specs.Numbers.{unreadNumber};
 ghost use Rattle.state.specs.Numbers.{refusalNumber, stopNumber, stopMissing};
 ghost use Rattle.machine.specs.Numbers.{outcomeNumber, answerNumber, reasonNumber};
-ghost use Rattle.machine.specs.Numbers.{outcomeMissing, answerMissing, reasonMissing};
+ghost use Rattle.machine.specs.Numbers.{outcomeMissing, answerMissing, reasonMissing, ofOutcome};
+ghost use Rattle.entry.specs.Why.{stopKind, answerKind};
 
 fn refusal_number(r: Refusal) -> u8
     ensures { λ n. ⌜ n ≡ refusalNumber r ⌝ }
@@ -43,8 +44,8 @@ fn stop_number(s: Stop) -> u8
         Stop::BranchInSlot => 15,
         Stop::SwitchedOff => 16,
         Stop::NoWindow(_) => 17,
-        Stop::ReadOnly => 18,
-        Stop::Trap => 19,
+        Stop::ReadOnly(_) => 18,
+        Stop::Trap(_) => 19,
     }
 }
 
@@ -85,8 +86,8 @@ fn stop_missing(s: Stop) -> u64
         Stop::BranchInSlot => 0,
         Stop::SwitchedOff => 0,
         Stop::NoWindow(x) => x,
-        Stop::ReadOnly => 0,
-        Stop::Trap => 0,
+        Stop::ReadOnly(_) => 0,
+        Stop::Trap(_) => 0,
     }
 }
 
@@ -116,5 +117,38 @@ pub fn reason_missing(e: Reason) -> u64
         Reason::Refused(_) => 0,
         Reason::Stopped(s) => stop_missing(s),
         Reason::Spent => 0,
+    }
+}
+
+fn stop_kind(s: Stop) -> u8
+    ensures { λ n. ⌜ n ≡ stopKind s ⌝ }
+{
+    match s {
+        Stop::NoWord => 1,
+        Stop::Unread(_) => 2,
+        Stop::BranchInSlot => 2,
+        Stop::SwitchedOff => 3,
+        Stop::NoWindow(_) => 4,
+        Stop::ReadOnly(_) => 4,
+        Stop::Trap(_) => 5,
+    }
+}
+
+fn outcome_kind(o: Outcome) -> u8
+    ensures { λ n. ⌜ n ≡ ofOutcome stopKind o ⌝ }
+{
+    match o {
+        Outcome::Finished => 0,
+        Outcome::Stopped(s) => stop_kind(s),
+    }
+}
+
+// What the fact behind a stop is, and 0 where there is none.
+pub fn answer_kind(a: Answer) -> u8
+    ensures { λ n. ⌜ n ≡ answerKind a ⌝ }
+{
+    match a {
+        Answer::Refused(_) => 0,
+        Answer::Ran(o) => outcome_kind(o),
     }
 }
