@@ -16,7 +16,7 @@ use Rattle.element.specs.Value.{signed, wrap}
 use Rattle.element.proofs.Diff.{Diff, diff-pos, diff-neg, diff-add, diff-minus, diff-to}
 use Rattle.element.proofs.Views.{wrap-is}
 use Rattle.plan.specs.Numbers.{address}
-use Rattle.demands.specs.Reasons.{AllInside, elementBytes, addressFrom}
+use Rattle.demands.specs.AtCounter.{AllInside, elementBytes, addressFrom}
 use Rattle.demands.proofs.Reflects.{Reflects, likewise, le-reflects, and-reflects}
 
 -- the sum that `addressFrom` takes modulo 2^64

@@ -52,7 +52,7 @@ refusal-between refusal.WindowSize = (omega arith, omega arith)
 refusal-between refusal.SharedAddress = (omega arith, omega arith)
 refusal-between refusal.State = (omega arith, omega arith)
 
-stop-between : (s : Stop) → (0 < stopNumber s) × (stopNumber s < 20)
+pub stop-between : (s : Stop) → (10 < stopNumber s) × (stopNumber s < 20)
 stop-between stop.NoWord = (omega arith, omega arith)
 stop-between (stop.Unread Unassigned) = (omega arith, omega arith)
 stop-between (stop.Unread LeftOut) = (omega arith, omega arith)
@@ -60,8 +60,8 @@ stop-between (stop.Unread Other) = (omega arith, omega arith)
 stop-between stop.BranchInSlot = (omega arith, omega arith)
 stop-between stop.SwitchedOff = (omega arith, omega arith)
 stop-between (stop.NoWindow x) = (omega arith, omega arith)
-stop-between stop.ReadOnly = (omega arith, omega arith)
-stop-between stop.Trap = (omega arith, omega arith)
+stop-between (stop.ReadOnly x) = (omega arith, omega arith)
+stop-between (stop.Trap bits) = (omega arith, omega arith)
 
 -- a reason is 20 or below it, and never 0
 pub data Reasoned : Reason → Type 0 where
@@ -70,7 +70,7 @@ pub data Reasoned : Reason → Type 0 where
 
 pub reasoned : (r : Reason) → Reasoned r
 reasoned (reason.Refused r) = let h = refusal-between r in fewer {r = reason.Refused r} (h .0) (omega arith)
-reasoned (reason.Stopped s) = fewer (stop-between s .0) (stop-between s .1)
+reasoned (reason.Stopped s) = let h = stop-between s in fewer {r = reason.Stopped s} (omega (arith, h .0)) (h .1)
 reasoned reason.Spent = spends
 
 reason-some : (r : Reason) → Reasoned r → Not (reasonNumber r ≡ 0)

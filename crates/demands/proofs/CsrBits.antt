@@ -11,7 +11,7 @@ use lib.Dec.{eqb}
 use lib.Pow.{field, mod-mod-pow, pow-mono, shr-shr}
 use Rattle.state.specs.Csr.{masked, bit, arms}
 use Rattle.state.proofs.TestLaws.{and-left, and-right}
-use Rattle.demands.specs.Reasons.{Left, Arms}
+use Rattle.demands.specs.AtCounter.{Left, Arms}
 use Rattle.demands.specs.Tables.{Not, Some, Bit, csrBits}
 use Rattle.demands.proofs.Reflects.{Reflects, likewise, eq-reflects, or-reflects, and-reflects, not-reflects}
 
@@ -33,32 +33,32 @@ every-at (suc k) f h j l =
 low-there : (k : ℕ) → k < 19 → Bit k csrBits
 low-there k h = eqb-true _ 1 (every-at 19 (λ j. eqb (csrBits / 2 ^ j % 2) 1) refl k h)
 
--- a low bit is one of the low 19
-low-bit : (x k : ℕ) → k < 19 → x % 2 ^ 19 / 2 ^ k % 2 ≡ x / 2 ^ k % 2
-low-bit x k h =
-    let e : 19 ≡ suc (18 - k) + k = omega arith in
-    let f : suc (18 - k) ≡ (18 - k) + 1 = omega arith in
-    ap (λ n. x % 2 ^ n / 2 ^ k % 2) e ∙ ap (λ n. n % 2) (field x (suc (18 - k)) k)
+-- a bit below n is one of the low n
+pub low-bit : (n x k : ℕ) → k < n → x % 2 ^ n / 2 ^ k % 2 ≡ x / 2 ^ k % 2
+low-bit n x k h =
+    let e : n ≡ suc (n - 1 - k) + k = omega arith in
+    let f : suc (n - 1 - k) ≡ (n - 1 - k) + 1 = omega arith in
+    ap (λ n. x % 2 ^ n / 2 ^ k % 2) e ∙ ap (λ n. n % 2) (field x (suc (n - 1 - k)) k)
     ∙ ap (λ n. x / 2 ^ k % 2 ^ n % 2) f
-    ∙ mod-mod-pow (x / 2 ^ k) (18 - k) 1
+    ∙ mod-mod-pow (x / 2 ^ k) (n - 1 - k) 1
 
 -- and masking keeps it
 kept-bit : (x k : ℕ) → k < 19 → masked x / 2 ^ k % 2 ≡ x / 2 ^ k % 2
 kept-bit x k h =
     let e : masked x % 2 ^ 19 ≡ x % 2 ^ 19 = omega arith in
-    sym (low-bit (masked x) k h) ∙ ap (λ n. n / 2 ^ k % 2) e ∙ low-bit x k h
+    sym (low-bit 19 (masked x) k h) ∙ ap (λ n. n / 2 ^ k % 2) e ∙ low-bit 19 x k h
 
-left-reflects : (x k : ℕ) → k < 19 → Reflects (bit k (masked x)) (Left x k)
+pub left-reflects : (x k : ℕ) → k < 19 → Reflects (bit k (masked x)) (Left x k)
 left-reflects x k h =
     likewise (λ b. (sym (kept-bit x k h) ∙ b, low-there k h)) (λ l. kept-bit x k h ∙ l .0)
     (eq-reflects (masked x / 2 ^ k % 2) 1)
 
 module _ (x : ℕ) where
   -- position k of the five
-  abbrev Pair : ℕ → Type 0
+  abbrev pub Pair : ℕ → Type 0
   Pair k = Left x (12 + k) × Left x (7 + k)
 
-  pair : (k : ℕ) → k < 5 → Reflects (bit (12 + k) (masked x) && bit (7 + k) (masked x)) (Pair k)
+  pub pair : (k : ℕ) → k < 5 → Reflects (bit (12 + k) (masked x) && bit (7 + k) (masked x)) (Pair k)
   pair k h =
       and-reflects (bit (12 + k) (masked x)) (bit (7 + k) (masked x)) (left-reflects x (12 + k) (omega arith))
       (left-reflects x (7 + k) (omega arith))

@@ -35,7 +35,7 @@ use Rattle.state.specs.declared.fetch.Fetched.the-variants as fetch
 use Rattle.state.specs.declared.stops.Stop.the-variants.{NoWord, Unread, NoWindow, Trap}
 use Rattle.state.specs.declared.windows.Found.{Found}
 use Rattle.state.specs.declared.windows.Found.the-variants.{At, Nowhere}
-use Rattle.state.specs.Csr.{masked, arms}
+use Rattle.state.specs.Csr.{masked, arms, arming}
 use Rattle.state.specs.Fetch.{fetched}
 use Rattle.state.specs.Machine.{Env, Machine, machine}
 use Rattle.state.specs.Windows.{placed, orElse}
@@ -212,11 +212,11 @@ module _ (table : List ℕ) (pb tb b₁ b₂ : ℕ) (v g : List ℕ) (c : Contro
   accessed-alike St wd a =
       store-alike a (registerAt v wd) _ _ (placed tb (length table) a) (placed b₁ (length w₁) a) refl
 
-  control-alike : (one? trap? : Bool) (x : ℕ)
-      → InWindow b₁ (length w₁) (cond one? (cond trap? (plan.Stop Trap) (plan.Csr x)) plan.Nothing)
-  control-alike true true x = tt
-  control-alike true false x = tt
-  control-alike false trap? x = tt
+  control-alike : (one? trap? : Bool) (bits x : ℕ)
+      → InWindow b₁ (length w₁) (cond one? (cond trap? (plan.Stop (Trap bits)) (plan.Csr x)) plan.Nothing)
+  control-alike true true bits x = tt
+  control-alike true false bits x = tt
+  control-alike false trap? bits x = tt
 
   executed-alike : (i : Instr) → Plans (executed e₁ m₁ i) (executed e₂ m₂ i)
   executed-alike (instr.Three o df wd ws wt) = same refl tt
@@ -234,7 +234,7 @@ module _ (table : List ℕ) (pb tb b₁ b₂ : ℕ) (v g : List ℕ) (c : Contro
   executed-alike (instr.Move wd ws) = same refl tt
   executed-alike (instr.Cfcmsa rd cs) = same refl tt
   executed-alike (instr.Ctcmsa cd rs) =
-      let x = masked (generalAt g rs) in same refl (control-alike (eqb (cd .0) 1) (arms x) x)
+      let x = masked (generalAt g rs) in same refl (control-alike (eqb (cd .0) 1) (arms x) (arming x) x)
   executed-alike (instr.Vec o wd ws wt) = same refl tt
   executed-alike (instr.Fill df wd rs) = same refl tt
   executed-alike (instr.Count o df wd ws) = same refl tt

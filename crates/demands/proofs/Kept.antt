@@ -40,7 +40,7 @@ use Rattle.state.specs.declared.setup.Setup.the-variants.{Accepted, Refused}
 use Rattle.state.specs.declared.stops.Stop.the-variants.{Trap}
 use Rattle.state.specs.declared.windows.Spot.{Spot}
 use Rattle.state.specs.declared.windows.Spot.the-variants.{Table, Work, Outside}
-use Rattle.state.specs.Csr.{masked, arms}
+use Rattle.state.specs.Csr.{masked, arms, arming}
 use Rattle.state.specs.Machine.{Env, Machine, machine}
 use Rattle.state.specs.Setup.{Limit, refusal, first, stateBad, targetBad}
 use Rattle.state.specs.Windows.{spotOf}
@@ -150,11 +150,11 @@ module _ (e : Env) (m : Machine) where
   accessed-within St wd a =
       stored-within (spotOf (e .bases) (length (e .table)) (length (m .work)) a) a (registerAt (m .vec) wd)
 
-  control-within : (one? trap? : Bool) (x : ℕ)
-      → Kept (cond one? (cond trap? (plan.Stop Trap) (plan.Csr (masked x))) plan.Nothing)
-  control-within true true x = tt
-  control-within true false x = masked-twice x
-  control-within false trap? x = tt
+  control-within : (one? trap? : Bool) (bits x : ℕ)
+      → Kept (cond one? (cond trap? (plan.Stop (Trap bits)) (plan.Csr (masked x))) plan.Nothing)
+  control-within true true bits x = tt
+  control-within true false bits x = masked-twice x
+  control-within false trap? bits x = tt
 
   executed-within : (i : Instr) → Kept (executed e m i)
   executed-within (instr.Three o df wd ws wt) = tt
@@ -172,7 +172,7 @@ module _ (e : Env) (m : Machine) where
   executed-within (instr.Move wd ws) = tt
   executed-within (instr.Cfcmsa rd cs) = tt
   executed-within (instr.Ctcmsa cd rs) =
-      control-within (eqb (cd .0) 1) (arms (masked (generalAt (m .gen) rs))) (generalAt (m .gen) rs)
+      let x = generalAt (m .gen) rs in control-within (eqb (cd .0) 1) (arms (masked x)) (arming (masked x)) x
   executed-within (instr.Vec o wd ws wt) = tt
   executed-within (instr.Fill df wd rs) = tt
   executed-within (instr.Count o df wd ws) = tt

@@ -1,6 +1,7 @@
 pub mod Addresses
 pub mod Answers
 pub mod ByZero
+pub mod Carried
 pub mod CsrBits
 pub mod Demand1
 pub mod Demand2
@@ -15,3 +16,6 @@ pub mod OneAnswer
 pub mod ReadLow
 pub mod Reasons
 pub mod Reflects
+pub mod Rows
+pub mod TrapBits
+pub mod Why

@@ -2,7 +2,7 @@
 -- sixteen is outside the window that holds the first; the definition finds the first such. Assumes nothing.
 use mathlib.Core.Path.{_≡_, refl, sym, ap, _∙_}
 use mathlib.Core.Bool.{Bool, true, false}
-use mathlib.Core.List.{List, [], _∷_}
+use mathlib.Core.List.{List}
 use Prim.Native.Nat.{ℕ, zero, suc, _+_, _%_, _^_, _<_}
 use native.Mathlib.Decide.{decLt, ℕ-discrete}
 use native.Mathlib.Nat.{mod-lt}
@@ -11,27 +11,16 @@ use lib.ListN.{length}
 use lib.Pow.{pow-pos}
 use Rattle.isa.specs.declared.Instr.{Instr}
 use Rattle.isa.specs.declared.Memory.{Memory}
-use Rattle.isa.specs.declared.Memory.the-variants.{Ld, St}
-use Rattle.isa.specs.declared.Read.the-variants as read
-use Rattle.isa.specs.declared.Vreg.{Vreg}
-use Rattle.memory.specs.File.{registerAt}
-use Rattle.ops.specs.Meaning.{memoryAt}
-use Rattle.plan.specs.declared.Plan.{Plan}
-use Rattle.plan.specs.Numbers.{address}
-use Rattle.plan.specs.Plan.{planOf, accessed, loaded, stored, generalAt, switchedEarly, unless}
 use Rattle.state.specs.declared.setup.Refusal.{Refusal}
 use Rattle.state.specs.declared.setup.Setup.{Setup}
 use Rattle.state.specs.declared.setup.Setup.the-variants.{Accepted, Refused}
 use Rattle.state.specs.declared.stops.Stop.{Stop}
 use Rattle.state.specs.declared.stops.Stop.the-variants as stop
-use Rattle.state.specs.declared.windows.Spot.{Spot}
-use Rattle.state.specs.declared.windows.Spot.the-variants.{Table, Work, Outside}
 use Rattle.state.specs.Machine.{Env, Machine}
 use Rattle.state.specs.Numbers.{refusalNumber, stopNumber, stopMissing}
 use Rattle.state.specs.Setup.{refusal}
-use Rattle.state.specs.Windows.{liesIn, firstOutside, missing, spotOf}
-use Rattle.state.proofs.SetupLaws.{accepted}
-use Rattle.state.proofs.WindowLaws.{spot-outside, outside-here, outside-next, missing-table, missing-other}
+use Rattle.state.specs.Windows.{liesIn, firstOutside, missing}
+use Rattle.state.proofs.WindowLaws.{outside-here, outside-next, missing-table, missing-other}
 use Rattle.machine.specs.declared.run.Reason.{Reason}
 use Rattle.machine.specs.declared.step.Answer.{Answer}
 use Rattle.machine.specs.declared.step.Outcome.{Outcome}
@@ -39,19 +28,23 @@ use Rattle.machine.specs.declared.step.Outcome.the-variants.{Finished, Stopped}
 use Rattle.machine.specs.Numbers.{outcomeNumber, answerNumber, reasonNumber}
 use Rattle.machine.specs.Numbers.{outcomeMissing, answerMissing, reasonMissing}
 use Rattle.machine.specs.Run.{wholeRun}
-use Rattle.machine.specs.Step.{stepOf, outcomeOf, whole, wholeStep}
+use Rattle.machine.specs.Step.{stepOf, whole, wholeStep}
 use Rattle.machine.proofs.RunLaws.{same-machine}
+use Rattle.machine.proofs.Said.{answer-is, reason-is}
 use Rattle.demands.specs.Demand1.{Why, spent, stopped}
 use Rattle.demands.specs.Limits.{limits}
 use Rattle.demands.specs.Missing.{FirstOutside, TableHolds, WorkHolds, Missing, table, work, nowhere}
 use Rattle.demands.specs.Missing.{OneMissing, Carries, StepMissing, RunMissing}
-use Rattle.demands.specs.Reasons.{Accesses, at, InTable, InWork, ReadsAs, Does, stops}
-use Rattle.demands.specs.Tables.{Row, row, First, none, given, passed, Not, Inside}
+use Rattle.demands.specs.AtCounter.{Accesses, at, InTable, InWork, Does}
+use Rattle.demands.specs.Reasons.{stops}
+use Rattle.demands.specs.Tables.{First, none, Not, Inside}
 use Rattle.demands.proofs.Answers.{refusal-between}
+use Rattle.demands.proofs.Carried.{carried, outcome-is, missingFrom, access-map, access-carries}
 use Rattle.demands.proofs.Demand1.{accepted-run, refused-run}
 use Rattle.demands.proofs.Kept.{steps-accepted}
 use Rattle.demands.proofs.Limits.{first-limit}
-use Rattle.demands.proofs.Reasons.{first-reason, one-reading, step-plans, below, accesses, accessing}
+use Rattle.demands.proofs.Reasons.{first-reason, both-do}
+use Rattle.demands.proofs.Rows.{skipped, applies, passes, empty}
 use Rattle.demands.proofs.Reflects.{Reflects, le-reflects, lt-reflects, and-reflects}
 
 -- ---- the first address outside a window
@@ -110,11 +103,8 @@ module _ (base len : ℕ) where
 -- ---- an access
 
 module _ (e : Env) (m : Machine) where
-  abbrev missingFrom : ℕ → ℕ
-  missingFrom a = missing (e .bases) (length (e .table)) (length (m .work)) a
-
   -- the definition's address, of an access that neither window holds whole
-  missing-is : (a : ℕ) → a < 2 ^ 64 → Not (InTable e a) → Not (InWork e m a) → Missing e m a (missingFrom a)
+  missing-is : (a : ℕ) → a < 2 ^ 64 → Not (InTable e a) → Not (InWork e m a) → Missing e m a (missingFrom e m a)
   missing-is a l t w = go (liesIn tb tn a) (liesIn wb wn a) refl refl
     where
       tb : ℕ
@@ -129,7 +119,7 @@ module _ (e : Env) (m : Machine) where
       wn : ℕ
       wn = length (m .work)
 
-      go : (x y : Bool) → liesIn tb tn a ≡ x → liesIn wb wn a ≡ y → Missing e m a (missingFrom a)
+      go : (x y : Bool) → liesIn tb tn a ≡ x → liesIn wb wn a ≡ y → Missing e m a (missingFrom e m a)
       go true y h k =
           rw (missing-table (e .bases) tn wn a h) (table (inside tb tn a .yes h) (first-outside tb tn 16 a l t))
       go false true h k =
@@ -137,50 +127,6 @@ module _ (e : Env) (m : Machine) where
       go false false h k =
           nowhere (inside tb tn a .no h) (inside wb wn a .no k)
           (missing-other (e .bases) tn wn a h ∙ outside-here wb wn a 16 k)
-
-  -- a plan that stops with 17 carries it
-  abbrev Carrying : ℕ → Plan → Type 0
-  Carrying a q = outcomeNumber (outcomeOf q) ≡ 17 → outcomeMissing (outcomeOf q) ≡ missingFrom a
-
-  abbrev spot : ℕ → Spot
-  spot a = spotOf (e .bases) (length (e .table)) (length (m .work)) a
-
-  loaded-carrying : (a : ℕ) (wd : Vreg) (s : Spot) → spot a ≡ s → Carrying a (loaded s wd (e .table) (m .work))
-  loaded-carrying a wd (Table i) p h = absurd (omega arith)
-  loaded-carrying a wd (Work i) p h = absurd (omega arith)
-  loaded-carrying a wd (Outside x) p h = spot-outside (e .bases) (length (e .table)) (length (m .work)) a x p
-
-  stored-carrying : (a v : ℕ) (s : Spot) → spot a ≡ s → Carrying a (stored s a v)
-  stored-carrying a v (Table i) p h = absurd (omega arith)
-  stored-carrying a v (Work i) p h = absurd (omega arith)
-  stored-carrying a v (Outside x) p h = spot-outside (e .bases) (length (e .table)) (length (m .work)) a x p
-
-  accessed-carrying : (o : Memory) (wd : Vreg) (a : ℕ)
-      → Carrying a (accessed o (e .bases) (e .table) (m .vec) (m .work) wd a)
-  accessed-carrying Ld wd a = loaded-carrying a wd (spot a) refl
-  accessed-carrying St wd a = stored-carrying a (registerAt (m .vec) wd) (spot a) refl
-
-  switched-carrying : (on : Bool) (a : ℕ) (q : Plan) → Carrying a q → Carrying a (unless (switchedEarly on) q)
-  switched-carrying true a q h = h
-  switched-carrying false a q h = λ n. absurd (omega arith)
-
--- ---- the rows of a table
-
--- the row that gives n, and those before it
-skipped : {k n : ℕ} {P : Type 0} {rows : List Row} → Not (k ≡ n) → First (row k P ∷ rows) n → First rows n
-skipped q (given p) = absurd (q refl)
-skipped q (passed r f) = f
-
-applies : {k n : ℕ} {P : Type 0} {rows : List Row} → (First rows n → ⊥) → First (row k P ∷ rows) n → P
-applies q (given p) = p
-applies q (passed r f) = absurd (q f)
-
-passes : {k n : ℕ} {P : Type 0} {rows : List Row} → Not (k ≡ n) → First (row k P ∷ rows) n → Not P
-passes q (given p) = absurd (q refl)
-passes q (passed r f) = r
-
-empty : {n : ℕ} → First [] n → n ≡ 0
-empty none = refl
 
 -- ---- one address
 
@@ -217,7 +163,7 @@ one-address p e m ok a x y (nowhere t w f) (work k g) = absurd (w k)
 one-address p e m ok a x y (nowhere t w f) (nowhere u v g) = f ∙ sym g
 
 -- the access is that of the instruction at the counter
-one-access : (p : List ℕ) (e : Env) (m : Machine) → refusal p e m ≡ Accepted → (i : Instr) (x y : ℕ)
+pub one-access : (p : List ℕ) (e : Env) (m : Machine) → refusal p e m ≡ Accepted → (i : Instr) (x y : ℕ)
     → Accesses m (λ o a. Missing e m a x) i → Accesses m (λ o a. Missing e m a y) i → x ≡ y
 one-access p e m ok i x y (at q) (at r) = one-address p e m ok _ x y q r
 
@@ -225,11 +171,7 @@ pub one-missing : OneMissing
 one-missing p e m ok n x y c d = go (ℕ-discrete n 17)
   where
     go : Dec (n ≡ 17) → x ≡ y
-    go (yes h) =
-        let i = c .missing h in
-        let j = d .missing h in
-        let same : j .instruction ≡ i .instruction = cc (one-reading p e m (j .reads) (i .reads)) in
-        one-access p e m ok (i .instruction) x y (i .holds) (rw same at (j .holds))
+    go (yes h) = both-do p e m (λ i. one-access p e m ok i x y) (c .missing h) (d .missing h)
     go (no h) = c .none h ∙ sym (d .none h)
 
 -- ---- a step
@@ -241,8 +183,8 @@ stop-none (stop.Unread u) h = refl
 stop-none stop.BranchInSlot h = refl
 stop-none stop.SwitchedOff h = refl
 stop-none (stop.NoWindow x) h = absurd (h refl)
-stop-none stop.ReadOnly h = refl
-stop-none stop.Trap h = refl
+stop-none (stop.ReadOnly x) h = refl
+stop-none (stop.Trap bits) h = refl
 
 outcome-none : (o : Outcome) → Not (outcomeNumber o ≡ 17) → outcomeMissing o ≡ 0
 outcome-none Finished h = refl
@@ -262,39 +204,25 @@ seventeen p e m n h f =
     (skipped (λ k. omega arith) (skipped (λ k. omega arith) (skipped (λ k. omega arith) f))))))
 
 module _ (p : List ℕ) (e : Env) (m : Machine) where
-  -- the address that it carries
-  abbrev carried : ℕ
-  carried = outcomeMissing (stepOf p e m .outcome)
+  -- the step's outcome
+  abbrev pub ends : Outcome
+  ends = stepOf p e m .outcome
 
-  access-carries : refusal p e m ≡ Accepted → outcomeNumber (stepOf p e m .outcome) ≡ 17
-      → (i : Instr) → ReadsAs p e m (read.Instr i) → Accesses m (InNeither e m) i
-      → Accesses m (λ o a. Missing e m a carried) i
-  unfolding planOf
-  access-carries ok h i here (at {k = k} {df = df} {wd = wd} {offset = offset} {rs = rs} q) =
-      let sized = accepted p e m ok in
-      let a : ℕ = address df offset (generalAt (m .gen) rs) in
-      let o : Memory = memoryAt (k .0) in
-      let l : InNeither e m o a = accessing e m sized k df wd offset rs (InNeither e m) (at {wd = wd} q) in
-      let plans = step-plans p e m here in
-      let is : carried ≡ missingFrom e m a =
-      ap outcomeMissing plans
-      ∙ switched-carrying e m (m .ctl .on) a (accessed o (e .bases) (e .table) (m .vec) (m .work) wd a)
-      (accessed-carrying e m o wd a) (sym (ap outcomeNumber plans) ∙ h)
-      in
-      accesses e m sized k df wd offset rs (λ o a. Missing e m a carried)
-      (rw is (missing-is e m a (below e m sized k df wd offset rs) (l .0) (l .1)))
-
-  accepted-carries : refusal p e m ≡ Accepted → Carries p e m (outcomeNumber (stepOf p e m .outcome)) carried
+  -- an access in neither window stops with 17 and carries the address that is missing
+  pub accepted-carries : refusal p e m ≡ Accepted → Carries p e m (outcomeNumber ends) (outcomeMissing ends)
   accepted-carries ok =
       record {
         missing = λ h.
-            let d = seventeen p e m (outcomeNumber (stepOf p e m .outcome)) h (first-reason p e m ok) in
+            let d = seventeen p e m (outcomeNumber ends) h (first-reason p e m ok) in
+            let is : outcomeMissing ends ≡ carried ends = ap outcomeMissing (outcome-is ends 17 h) in
             record {
               instruction = d .instruction;
               reads = d .reads;
-              holds = access-carries ok h (d .instruction) (d .reads) (d .holds);
+              holds =
+                  access-map (λ o a f. rw (is, f .2 .0 h) (missing-is e m a (f .1) (f .0 .0) (f .0 .1)))
+                  (access-carries p e m ok (d .reads) (d .holds));
             };
-        none = outcome-none (stepOf p e m .outcome);
+        none = outcome-none ends;
       }
 
   -- an answer with another number
@@ -317,7 +245,7 @@ step-carries p e m = go (refusal p e m) refl
     go (Refused r) h = refused-carries p e m r
 
 pub step-missing : StepMissing
-step-missing p e m r v g w i = rw (i .answer, i .missing) (step-carries p e m)
+step-missing p e m r v g w i = rw (answer-is i) (step-carries p e m)
 
 -- ---- a run
 
@@ -345,5 +273,5 @@ module _ (p : List ℕ) (e : Env) (budget : ℕ) where
 pub run-missing : RunMissing
 run-missing p e budget m r v g w i =
     let s = wholeRun p e budget m in
-    rw (i .reason, i .missing, ← same-machine (s .after) v g w (r .control) (i .vec) (i .gen) (i .work) (i .control))
+    rw (reason-is i, ← same-machine (s .after) v g w (r .control) (i .vec) (i .gen) (i .work) (i .control))
     (run-carries p e budget m)

@@ -2,8 +2,9 @@
 -- Assumes nothing.
 use mathlib.Core.Path.{_≡_, sym, _∙_}
 use Rattle.state.proofs.Said.{fetched-is, setup-is}
-use Rattle.machine.proofs.Said.{answer-is, reason-is}
-use Rattle.demands.specs.OneAnswer.{OneAdvance, OneStep, OneRun, OneValue, OneElement, OneRegister, OneSetup, OneFetched}
+use Rattle.machine.proofs.Said.{answer-is, reason-is, why-is}
+use Rattle.demands.specs.OneAnswer.{OneAdvance, OneStep, OneRun, OneWhy, OneValue, OneElement, OneRegister}
+use Rattle.demands.specs.OneAnswer.{OneSetup, OneFetched}
 
 pub one-advance : OneAdvance
 one-advance s r r′ v v′ g g′ w w′ i j =
@@ -23,6 +24,9 @@ one-run s r r′ v v′ g g′ w w′ i j =
     let n = i .count ∙ sym (j .count) in
     let c = i .control ∙ sym (j .control) in
     (λ k. record { reason = a k; count = n k; control = c k }, i .vec ∙ sym (j .vec), i .gen ∙ sym (j .gen), i .work ∙ sym (j .work))
+
+pub one-why : OneWhy
+one-why s r r′ i j = why-is i ∙ sym (why-is j)
 
 pub one-value : OneValue
 one-value A d r r′ e f = e ∙ sym f

@@ -3,7 +3,7 @@
 use mathlib.Core.Path.{_≡_, refl, sym, ap, _∙_}
 use mathlib.Core.Bool.{Bool, true, false, cond, _&&_}
 use mathlib.Core.List.{List, [], _∷_}
-use Prim.Native.Nat.{ℕ, _+_, _-_, _*_, _/_, _%_, _^_, _≤_, _<_}
+use Prim.Native.Nat.{ℕ, _+_, _-_, _*_, _/_, _%_, _^_, _<_}
 use native.Mathlib.Omega.{arith}
 use lib.Dec.{eqb, leb}
 use lib.ListN.{length}
@@ -36,36 +36,24 @@ use Rattle.state.specs.declared.control.Mark.the-variants.{Clear, NotTaken, Tak
 use Rattle.state.specs.declared.fetch.Fetched.the-variants.{Word, NoWord}
 use Rattle.state.specs.declared.stops.Stop.the-variants.{Trap}
 use Rattle.state.specs.declared.windows.Found.the-variants.{At, Nowhere}
-use Rattle.state.specs.Csr.{masked, arms}
+use Rattle.state.specs.Csr.{masked, arms, arming}
 use Rattle.state.specs.Fetch.{fetched}
 use Rattle.state.specs.Machine.{Env, Machine}
 use Rattle.state.specs.Windows.{placed, orElse}
 use Rattle.state.proofs.SetupLaws.{Sized, accepted}
 use Rattle.machine.specs.Numbers.{outcomeNumber}
 use Rattle.machine.specs.Step.{stepOf, outcomeOf, attempted, decided}
-use Rattle.demands.specs.Reasons.{IsBranch, format, whole, IgnoresSwitch, scaled, general, elementBytes}
-use Rattle.demands.specs.Reasons.{addressFrom, Accesses, at, SetsCsr, to, InTable, InWork, Arms}
-use Rattle.demands.specs.Reasons.{StandsAt, ReadsAs, Does, readStops, stops, FirstReason}
-use Rattle.demands.specs.Tables.{Row, row, First, none, given, passed, OneFirst, Not, Some, little}
+use Rattle.machine.specs.Why.{wordAt}
+use Rattle.demands.specs.AtCounter.{IsBranch, format, whole, IgnoresSwitch, scaled, general, elementBytes}
+use Rattle.demands.specs.AtCounter.{addressFrom, Accesses, at, SetsCsr, to, InTable, InWork, Arms}
+use Rattle.demands.specs.AtCounter.{StandsAt, ReadsAs, IsWord, Does}
+use Rattle.demands.specs.Reasons.{readStops, stops, FirstReason}
+use Rattle.demands.specs.Tables.{Row, row, First, none, given, passed, Not, Some, little}
 use Rattle.demands.proofs.Addresses.{address-from, all-inside}
 use Rattle.demands.proofs.CsrBits.{arms-reflects}
 use Rattle.demands.proofs.Little.{little-number}
+use Rattle.demands.proofs.Rows.{swapped}
 use Rattle.demands.proofs.Reflects.{Reflects, clash, likewise, eq-reflects, le-reflects, and-reflects}
-
--- ---- rows
-
-pub one-first : OneFirst
-one-first rows n k none none = refl
-one-first rows n k (given a) (given b) = refl
-one-first rows n k (given a) (passed q g) = absurd (q a)
-one-first rows n k (passed p f) (given b) = absurd (p b)
-one-first rows n k (passed p f) (passed q g) = one-first _ n k f g
-
--- a row whose fact holds together with another's
-swapped : {k n : ℕ} {P Q : Type 0} {rows rows′ : List Row} → (P → Q) → (Q → P) → (First rows n → First rows′ n)
-    → First (row k P ∷ rows) n → First (row k Q ∷ rows′) n
-swapped f g h (given p) = given (f p)
-swapped f g h (passed q r) = passed (λ x. q (g x)) (h r)
 
 -- two numbers that are not the same
 differ : {A : Type 0} → _≡_ {A = ℕ} 0 1 → A
@@ -128,11 +116,11 @@ module _ (i : Instr) (q : Plan) (rows : List Row) (rest : First rows (outcomeNum
 
 -- ---- 17 to 19
 
-module _ (e : Env) (m : Machine) (sized : Sized e m) where
-  general-at : (r : Greg) → general m r ≡ generalAt (m .gen) r
-  unfolding generalAt
-  general-at r = little-number (m .gen) (8 * r .0) 8
+pub general-at : (m : Machine) (r : Greg) → general m r ≡ generalAt (m .gen) r
+unfolding generalAt
+general-at m r = little-number (m .gen) (8 * r .0) 8
 
+module _ (e : Env) (m : Machine) (sized : Sized e m) where
   -- the facts of the rows
   abbrev Nowhere? : Memory → ℕ → Type 0
   Nowhere? o a = Not (InTable e a) × Not (InWork e m a)
@@ -162,7 +150,7 @@ module _ (e : Env) (m : Machine) (sized : Sized e m) where
 
     -- the address, by either definition
     same : addressFrom (general m rs) offset (elementBytes df) ≡ a
-    same = ap (λ x. addressFrom x offset (elementBytes df)) (general-at rs)
+    same = ap (λ x. addressFrom x offset (elementBytes df)) (general-at m rs)
         ∙ sym (address-from df offset (generalAt (m .gen) rs))
 
     pub below : a < 2 ^ 64
@@ -225,17 +213,18 @@ module _ (e : Env) (m : Machine) (sized : Sized e m) where
     x = generalAt (m .gen) rs
 
     sets : (cd .0 ≡ 1) × Arms x → SetsCsr m Arms (instr.Ctcmsa cd rs)
-    sets h = to {rs = rs} (h .0) (rw (general-at rs) (h .1))
+    sets h = to {rs = rs} (h .0) (rw (general-at m rs) (h .1))
 
     set : SetsCsr m Arms (instr.Ctcmsa cd rs) → (cd .0 ≡ 1) × Arms x
-    set (to p q) = (p, rw (general-at rs) at q)
+    set (to p q) = (p, rw (general-at m rs) at q)
 
     no-access : (f : Memory → ℕ → Type 0) → Not (Accesses m f (instr.Ctcmsa cd rs))
     no-access f h = elim h [ ]
 
     control-first : (one trap : Bool) → Reflects one (cd .0 ≡ 1) → Reflects trap (Arms x)
         → First (risks (instr.Ctcmsa cd rs))
-        (outcomeNumber (outcomeOf (cond one (cond trap (plan.Stop Trap) (plan.Csr (masked x))) plan.Nothing)))
+        (outcomeNumber
+        (outcomeOf (cond one (cond trap (plan.Stop (Trap (arming (masked x)))) (plan.Csr (masked x))) plan.Nothing)))
     control-first true true a b =
         passed (no-access Nowhere?) (passed (no-access ReadOnly?) (given (sets (a .yes refl, b .yes refl))))
     control-first true false a b =
@@ -283,6 +272,12 @@ module _ (p : List ℕ) (e : Env) (m : Machine) where
       let k : s .number ≡ t .number = omega (arith, s .holds .0 .1, t .holds .0 .1) in
       sym (s .holds .1) ∙ ap (λ i. readOf (little p (4 * i) 4)) k ∙ t .holds .1
 
+  -- so two facts of the instruction there are facts of one instruction
+  pub both-do : {f g : Instr → Type 0} {A : Type 0} → ((i : Instr) → f i → g i → A) → Does p e m f → Does p e m g → A
+  both-do h c d =
+      let same : d .instruction ≡ c .instruction = cc (one-reading (d .reads) (c .reads)) in
+      h (c .instruction) (c .holds) (rw same at (d .holds))
+
   -- 15 to 19 of the instruction that it reads as
   module _ (i : Instr) (here : ReadsAs p e m (read.Instr i)) where
     does : {f : Instr → Type 0} → f i → Does p e m f
@@ -315,11 +310,25 @@ module _ (p : List ℕ) (e : Env) (m : Machine) where
   abbrev w : ℕ
   w = number (part p (m .ctl .pc - e .bases .program) 4)
 
-  reads : Some (StandsAt p e m) → ReadsAs p e m (readOf w)
-  reads s =
+  spelt : (s : Some (StandsAt p e m)) → little p (4 * s .number) 4 ≡ w
+  spelt s =
       let k : 4 * s .number ≡ m .ctl .pc - e .bases .program = omega (arith, s .holds .1) in
-      let same = ap readOf (little-number p (4 * s .number) 4 ∙ ap (λ at. number (part p at 4)) k) in
-      record { number = s .number; holds = (s .holds, same) }
+      little-number p (4 * s .number) 4 ∙ ap (λ at. number (part p at 4)) k
+
+  reads : Some (StandsAt p e m) → ReadsAs p e m (readOf w)
+  reads s = record { number = s .number; holds = (s .holds, ap readOf (spelt s)) }
+
+  -- the word that is fetched
+  abbrev pub word : ℕ
+  word = wordAt (fetched p (e .bases .program) (m .ctl .pc))
+
+  pub word-is : Some (StandsAt p e m) → IsWord p e m word
+  unfolding fetched
+  word-is s = go stands? stands
+    where
+      go : (b : Bool) → Reflects b (Some (StandsAt p e m)) → IsWord p e m (wordAt (cond b (Word w) NoWord))
+      go true x = record { number = s .number; holds = (s .holds, sym (spelt s)) }
+      go false x = absurd (x .no refl s)
 
   -- the instruction there decides how the step ends
   pub step-plans : {i : Instr} → ReadsAs p e m (read.Instr i) → stepOf p e m .outcome ≡ outcomeOf (planOf e m i)

@@ -1,3 +1,4 @@
+pub mod AtCounter
 pub mod ByZero
 pub mod Demand1
 pub mod Demand2
@@ -8,3 +9,4 @@ pub mod Missing
 pub mod OneAnswer
 pub mod Reasons
 pub mod Tables
+pub mod Why

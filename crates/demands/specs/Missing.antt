@@ -13,7 +13,7 @@ use Rattle.machine.specs.declared.step.Answered.{Answered}
 use Rattle.machine.specs.Numbers.{answerNumber, reasonNumber, answerMissing, reasonMissing}
 use Rattle.machine.specs.Run.{RunIs, wholeRun}
 use Rattle.machine.specs.Step.{WholeIs, wholeStep}
-use Rattle.demands.specs.Reasons.{Accesses, Does}
+use Rattle.demands.specs.AtCounter.{Accesses, Does}
 use Rattle.demands.specs.Tables.{Not, Inside}
 
 -- of n addresses from a, counted upward modulo 2^64, x is the first that a window of len bytes from base does not hold

@@ -12,10 +12,12 @@ use Rattle.state.specs.Setup.{Checks}
 use Rattle.machine.specs.declared.run.Ended.{Ended}
 use Rattle.machine.specs.declared.step.Answered.{Answered}
 use Rattle.machine.specs.declared.step.Stepped.{Stepped}
+use Rattle.machine.specs.declared.why.Cause.{Cause}
 use Rattle.machine.specs.Run.{Run, RunIs}
 use Rattle.machine.specs.Step.{Result, StepIs, Whole, WholeIs}
+use Rattle.machine.specs.Why.{WhyIs}
 
--- `advance`, inside a step and a run
+-- `act::act`, and `advance`, inside a step and a run
 abbrev pub OneAdvance : Type 0
 OneAdvance =
     (s : Result) (r r′ : Stepped) (v v′ g g′ w w′ : List ℕ) → StepIs s r v g w → StepIs s r′ v′ g′ w′
@@ -31,6 +33,10 @@ OneStep =
 abbrev pub OneRun : Type 0
 OneRun = (s : Run) (r r′ : Ended) (v v′ g g′ w w′ : List ℕ) → RunIs s r v g w → RunIs s r′ v′ g′ w′
     → (r ≡ r′) × (v ≡ v′) × (g ≡ g′) × (w ≡ w′)
+
+-- `why::why`
+abbrev pub OneWhy : Type 0
+OneWhy = (s r r′ : Cause) → WhyIs s r → WhyIs s r′ → r ≡ r′
 
 -- every other public function: its contract is an equation between its answer, or a lent buffer at exit, and a
 -- definition (`tools/pages.py` holds each of them to that form)

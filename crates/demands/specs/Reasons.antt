@@ -1,29 +1,14 @@
--- The stops of a step: document 01's table, a row a number, in its order, and the answers of step and run by both
--- tables: the number of the first limit that is broken, else, in a run, 20 where the budget is spent, else that of the
--- first stop that applies; 0 where none does.
+-- The stops of a step: document 01's table, a row a number, in its order, each with the word and the fact of request
+-- 6/12; and the answers of step and run by both tables: the number of the first limit that is broken, else, in a run,
+-- 20 where the budget is spent, else that of the first stop that applies; 0 where none does.
 -- (That a stop changes nothing is `StopKeeps` of Demand1.)
 use mathlib.Core.Path.{_≡_}
 use mathlib.Core.Bool.{false, cond}
-use mathlib.Core.Logic.{_⊎_}
 use mathlib.Core.List.{List, [], _∷_, _++_}
-use Prim.Native.Nat.{ℕ, _+_, _-_, _*_, _/_, _%_, _^_, _<_}
-use lib.Dec.{ltb}
-use lib.ListN.{length}
-use Rattle.isa.specs.declared.Creg.{Creg}
-use Rattle.isa.specs.declared.Greg.{Greg}
-use Rattle.isa.specs.declared.Instr.{Instr}
-use Rattle.isa.specs.declared.Instr.the-variants as instr
-use Rattle.isa.specs.declared.Memory.{Memory}
+use Prim.Native.Nat.{ℕ}
 use Rattle.isa.specs.declared.Memory.the-variants.{St}
-use Rattle.isa.specs.declared.Op.{Op}
-use Rattle.isa.specs.declared.Read.{Read}
 use Rattle.isa.specs.declared.Read.the-variants as read
 use Rattle.isa.specs.declared.Unread.the-variants.{Unassigned, LeftOut, Other}
-use Rattle.isa.specs.declared.Vreg.{Vreg}
-use Rattle.isa.specs.declared.Width.{Width}
-use Rattle.isa.specs.declared.Width.the-variants.{B, H, W, D}
-use Rattle.ops.specs.Meaning.{memoryAt}
-use Rattle.reading.specs.Reading.{readOf}
 use Rattle.state.specs.declared.control.Mark.the-variants.{Clear}
 use Rattle.state.specs.declared.setup.Setup.the-variants.{Accepted}
 use Rattle.state.specs.Machine.{Env, Machine, machine}
@@ -33,96 +18,38 @@ use Rattle.machine.specs.declared.step.Answered.{Answered}
 use Rattle.machine.specs.Numbers.{outcomeNumber, answerNumber, reasonNumber}
 use Rattle.machine.specs.Run.{RunIs, wholeRun}
 use Rattle.machine.specs.Step.{WholeIs, stepOf, wholeStep}
+use Rattle.demands.specs.AtCounter.{IsBranch, IgnoresSwitch, Accesses, SetsCsr, InTable, InWork, Arms, TrapBits}
+use Rattle.demands.specs.AtCounter.{StandsAt, ReadsAs, IsWord, Does}
 use Rattle.demands.specs.Limits.{limits}
-use Rattle.demands.specs.Tables.{Row, row, First, Not, Some, little, Bit, csrBits, Inside}
-
--- ---- instructions
-
--- a branch: BZ and BNZ with a format, BZ.V and BNZ.V
-pub data IsBranch : Instr → Type 0 where
-  format : {k : Op} {df : Width} {wt : Vreg} {offset : ℕ} → IsBranch (instr.Branch k df wt offset)
-  whole : {k : Op} {wt : Vreg} {offset : ℕ} → IsBranch (instr.BranchV k wt offset)
-
--- LSA and DLSA ignore the switch, so all others do not
-pub data IgnoresSwitch : Instr → Type 0 where
-  scaled : {k : Op} {rd rs rt : Greg} {sa : ℕ} → IgnoresSwitch (instr.Scaled k rd rs rt sa)
-
--- general register r: eight bytes
-abbrev pub general : Machine → Greg → ℕ
-general m r = little (m .gen) (8 * r .0) 8
-
-abbrev pub elementBytes : Width → ℕ
-elementBytes B = 1
-elementBytes H = 2
-elementBytes W = 4
-elementBytes D = 8
-
--- x plus a ten-bit field times n, modulo 2^64; the field is signed: from 512 on it stands for 1,024 less
-abbrev pub addressFrom : ℕ → ℕ → ℕ → ℕ
-addressFrom x field n = cond (ltb field 512) (x + field * n) (x + field * n + 2 ^ 64 - 1024 * n) % 2 ^ 64
-
--- a load or a store of which f holds, with the address of its first byte
-pub data Accesses (m : Machine) (f : Memory → ℕ → Type 0) : Instr → Type 0 where
-  at : {k : Op} {df : Width} {wd : Vreg} {offset : ℕ} {rs : Greg}
-      → f (memoryAt (k .0)) (addressFrom (general m rs) offset (elementBytes df))
-      → Accesses m f (instr.Memory k df wd offset rs)
-
--- a CTCMSA to MSACSR, control register 1, of a value of which f holds
-pub data SetsCsr (m : Machine) (f : ℕ → Type 0) : Instr → Type 0 where
-  to : {cd : Creg} {rs : Greg} → cd .0 ≡ 1 → f (general m rs) → SetsCsr m f (instr.Ctcmsa cd rs)
-
--- ---- what they ask for
-
--- all sixteen addresses of an access, modulo 2^64, lie in a window
-abbrev pub AllInside : ℕ → ℕ → ℕ → Type 0
-AllInside base len a = (k : ℕ) → k < 16 → Inside base len ((a + k) % 2 ^ 64)
-
-abbrev pub InTable : Env → ℕ → Type 0
-InTable e a = AllInside (e .bases .table) (length (e .table)) a
-
-abbrev pub InWork : Env → Machine → ℕ → Type 0
-InWork e m a = AllInside (e .bases .work) (length (m .work)) a
-
--- bit k of x where the bits outside 0107FFFF are cleared
-abbrev pub Left : ℕ → ℕ → Type 0
-Left x k = Bit k x × Bit k csrBits
-
--- the value x arms a float trap: bit 17, or a position that bits 16..12 and 11..7 share
-abbrev pub Arms : ℕ → Type 0
-Arms x = Left x 17 ⊎ Some (λ k. (k < 5) × Left x (12 + k) × Left x (7 + k))
+use Rattle.demands.specs.Missing.{Missing}
+use Rattle.demands.specs.Tables.{Row, row, told, First, Not, Some}
 
 -- ---- the table
 
--- program word i stands at the counter
-abbrev pub StandsAt : List ℕ → Env → Machine → ℕ → Type 0
-StandsAt p e m i = (i < length p / 4) × (m .ctl .pc ≡ e .bases .program + 4 * i)
+-- behind 12 to 19 stand the word at the counter, w, and the fact x of which f holds
+abbrev pub Behind : List ℕ → Env → Machine → (ℕ → ℕ → Type 0) → ℕ → ℕ → Type 0
+Behind p e m f w x = IsWord p e m w × f w x
 
--- the word at the counter reads as r
-abbrev pub ReadsAs : List ℕ → Env → Machine → Read → Type 0
-ReadsAs p e m r = Some (λ i. StandsAt p e m i × (readOf (little p (4 * i) 4) ≡ r))
-
--- the word at the counter reads as an instruction of which f holds
-pub record Does (p : List ℕ) (e : Env) (m : Machine) (f : Instr → Type 0) : Type 0 where
-  pub instruction : Instr
-  pub reads : ReadsAs p e m (read.Instr instruction)
-  pub holds : f instruction
-
--- 12 to 19
+-- 12 to 19. The fact is the word itself; of 16 the switch, 1 on and 0 off; of 17 the address that is missing; of 18
+-- that of the store's first byte; of 19 the bits that arm the trap
 abbrev pub readStops : List ℕ → Env → Machine → List Row
 readStops p e m =
-    row 12 (ReadsAs p e m (read.Not Unassigned))
-    ∷ row 13 (ReadsAs p e m (read.Not LeftOut))
-    ∷ row 14 (ReadsAs p e m (read.Not Other))
-    ∷ row 15 (Does p e m (λ i. IsBranch i × Not (m .ctl .mark ≡ Clear)))
-    ∷ row 16 (Does p e m (λ i. Not (IgnoresSwitch i) × (m .ctl .on ≡ false)))
-    ∷ row 17 (Does p e m (Accesses m (λ o a. Not (InTable e a) × Not (InWork e m a))))
-    ∷ row 18 (Does p e m (Accesses m (λ o a. (o ≡ St) × InTable e a)))
-    ∷ row 19 (Does p e m (SetsCsr m Arms))
+    told 12 (ReadsAs p e m (read.Not Unassigned)) (Behind p e m (λ w x. x ≡ w))
+    ∷ told 13 (ReadsAs p e m (read.Not LeftOut)) (Behind p e m (λ w x. x ≡ w))
+    ∷ told 14 (ReadsAs p e m (read.Not Other)) (Behind p e m (λ w x. x ≡ w))
+    ∷ told 15 (Does p e m (λ i. IsBranch i × Not (m .ctl .mark ≡ Clear))) (Behind p e m (λ w x. x ≡ w))
+    ∷ told 16 (Does p e m (λ i. Not (IgnoresSwitch i) × (m .ctl .on ≡ false)))
+    (Behind p e m (λ w x. x ≡ cond (m .ctl .on) 1 0))
+    ∷ told 17 (Does p e m (Accesses m (λ o a. Not (InTable e a) × Not (InWork e m a))))
+    (Behind p e m (λ w x. Does p e m (Accesses m (λ o a. Missing e m a x))))
+    ∷ told 18 (Does p e m (Accesses m (λ o a. (o ≡ St) × InTable e a)))
+    (Behind p e m (λ w x. Does p e m (Accesses m (λ o a. x ≡ a))))
+    ∷ told 19 (Does p e m (SetsCsr m Arms)) (Behind p e m (λ w x. Does p e m (SetsCsr m (λ v. TrapBits v x))))
     ∷ []
 
--- the whole table
+-- the whole table; behind 11 there is no word, and the fact is the counter
 abbrev pub stops : List ℕ → Env → Machine → List Row
-stops p e m = row 11 (Not (Some (StandsAt p e m))) ∷ readStops p e m
+stops p e m = told 11 (Not (Some (StandsAt p e m))) (λ w x. (w ≡ 0) × (x ≡ m .ctl .pc)) ∷ readStops p e m
 
 abbrev pub FirstReason : Type 1
 FirstReason =

@@ -6,13 +6,18 @@ use mathlib.Core.List.{List, [], _∷_}
 use Prim.Native.Nat.{ℕ, zero, suc, _+_, _*_, _/_, _%_, _^_, _≤_, _<_}
 use lib.ListN.{getD}
 
--- a row: its number, and when it is given
+-- a row: its number, when it is given, and which word and which fact stand behind it then
 pub record Row : Type 1 where
   pub number : ℕ
   pub applies : Type 0
+  pub behind : ℕ → ℕ → Type 0
 
+abbrev pub told : ℕ → Type 0 → (ℕ → ℕ → Type 0) → Row
+told n a b = record { number = n; applies = a; behind = b }
+
+-- nothing stands behind it: word and fact are 0
 abbrev pub row : ℕ → Type 0 → Row
-row n a = record { number = n; applies = a }
+row n a = told n a (λ w x. (w ≡ 0) × (x ≡ 0))
 
 -- what is not so
 abbrev pub Not : Type 0 → Type 0
@@ -27,6 +32,12 @@ pub data First : List Row → ℕ → Type 1 where
 -- there is one
 abbrev pub OneFirst : Type 1
 OneFirst = (rows : List Row) (n k : ℕ) → First rows n → First rows k → n ≡ k
+
+-- the same with the word and the fact behind it: 0, 0 and 0 where none applies
+pub data Says : List Row → ℕ → ℕ → ℕ → Type 1 where
+  nothing : Says [] 0 0 0
+  here : {r : Row} {rs : List Row} {w x : ℕ} → r .applies → r .behind w x → Says (r ∷ rs) (r .number) w x
+  later : {r : Row} {rs : List Row} {n w x : ℕ} → Not (r .applies) → Says rs n w x → Says (r ∷ rs) n w x
 
 -- some number of which f holds
 pub record Some (f : ℕ → Type 0) : Type 0 where

@@ -1,3 +1,4 @@
 pub mod Answers
 pub mod GoesOn
 pub mod Range
+pub mod Why

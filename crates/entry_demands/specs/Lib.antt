@@ -2,3 +2,4 @@ pub mod Answers
 pub mod Calls
 pub mod GoesOn
 pub mod Range
+pub mod Why

@@ -1,0 +1,82 @@
+-- The answers of `msa_why` are those of the definition's call, in the numbers that the C entry makes of them. Assumes
+-- nothing.
+use mathlib.Core.Path.{_≡_, refl, ap, _∙_}
+use mathlib.Core.List.{List}
+use Prim.Native.Nat.{ℕ, _<_}
+use native.Mathlib.Omega.{arith}
+use Rattle.isa.specs.declared.Unread.{Unread}
+use Rattle.isa.specs.declared.Unread.the-variants.{Unassigned, LeftOut, Other}
+use Rattle.state.specs.declared.stops.Stop.the-variants as stop
+use Rattle.state.specs.Machine.{Env}
+use Rattle.state.specs.Numbers.{refusalNumber}
+use Rattle.state.specs.Setup.{refusal}
+use Rattle.machine.specs.declared.run.Reason.{Reason}
+use Rattle.machine.specs.declared.run.Reason.the-variants as reason
+use Rattle.machine.specs.declared.step.Answer.{Answer}
+use Rattle.machine.specs.declared.step.Answer.the-variants.{Refused, Ran}
+use Rattle.machine.specs.declared.step.Outcome.the-variants.{Finished, Stopped}
+use Rattle.machine.specs.Numbers.{answerNumber, answerMissing, reasonNumber}
+use Rattle.machine.specs.Run.{wholeRun}
+use Rattle.machine.specs.Step.{wholeStep}
+use Rattle.machine.specs.Why.{whyOf}
+use Rattle.entry.specs.declared.MsaWhy.{MsaWhy}
+use Rattle.entry.specs.Why.{answerKind}
+use Rattle.demands.proofs.Answers.{refusal-between}
+use Rattle.demands.proofs.Why.{same-answer, whole-says, fact-missing, ends-stopped}
+use Rattle.entry_demands.specs.Calls.{Lent, machineOf}
+use Rattle.entry_demands.specs.Why.{WhyCall, KindIs, nothing, counter, word, switch, address, bits}
+use Rattle.entry_demands.specs.Why.{WhyCalled, Agrees, WhyOfStep, WhyOfRun}
+use Rattle.entry_demands.proofs.GoesOn.{left-machine}
+
+-- ---- kinds
+
+kind-is : (a : Answer) → KindIs (answerNumber a) (answerKind a)
+kind-is (Refused r) = nothing (refusalNumber r) (omega (arith, refusal-between r .1))
+kind-is (Ran Finished) = nothing 0 (omega arith)
+kind-is (Ran (Stopped stop.NoWord)) = counter
+kind-is (Ran (Stopped (stop.Unread Unassigned))) = word 12 (omega arith) (omega arith)
+kind-is (Ran (Stopped (stop.Unread LeftOut))) = word 13 (omega arith) (omega arith)
+kind-is (Ran (Stopped (stop.Unread Other))) = word 14 (omega arith) (omega arith)
+kind-is (Ran (Stopped stop.BranchInSlot)) = word 15 (omega arith) (omega arith)
+kind-is (Ran (Stopped stop.SwitchedOff)) = switch
+kind-is (Ran (Stopped (stop.NoWindow x))) = address 17 (omega arith) (omega arith)
+kind-is (Ran (Stopped (stop.ReadOnly x))) = address 18 (omega arith) (omega arith)
+kind-is (Ran (Stopped (stop.Trap b))) = bits
+
+-- ---- the call
+
+pub why-called : WhyCalled
+why-called p e x u i =
+    rw i (record { says = whole-says p e (machineOf x); kind = kind-is (whyOf p e (machineOf x) .answer) })
+
+-- on a machine whose next step answers a
+agrees : (p : List ℕ) (e : Env) (x : Lent) (u : MsaWhy) (a : Answer) → WhyCall p e x u
+    → wholeStep p e (machineOf x) .answer ≡ a → Agrees u (answerNumber a) (answerMissing a)
+agrees p e x u a i h =
+    let m = machineOf x in
+    let answer : whyOf p e m .answer ≡ a = same-answer p e m (refusal p e m) ∙ h in
+    rw i
+    (record {
+      number = ap answerNumber answer;
+      missing = λ k. fact-missing p e m (ap answerNumber answer ∙ k) ∙ ap answerMissing h;
+    })
+
+pub why-of-step : WhyOfStep
+why-of-step p e x y r u i j =
+    rw (i .reason, i .missing) (agrees p e x u (wholeStep p e (machineOf x) .answer) j refl)
+
+-- a run whose number is that of a stop has stopped
+pub why-of-run : WhyOfRun
+why-of-run p e budget x y r u bytes i l h j =
+    go (wholeRun p e budget (machineOf x) .reason) refl (rw (i .reason) at l) (rw (i .reason) at h)
+  where
+    go : (s : Reason) → wholeRun p e budget (machineOf x) .reason ≡ s
+        → 10 < reasonNumber (wholeRun p e budget (machineOf x) .reason)
+        → reasonNumber (wholeRun p e budget (machineOf x) .reason) < 20
+        → Agrees u (r .reason) (r .missing)
+    go (reason.Refused s) k l h = absurd (omega (arith, refusal-between s .1, ap reasonNumber k))
+    go (reason.Stopped s) k l h =
+        let left = left-machine p e budget x bytes r y i in
+        let stops = ap (λ m. wholeStep p e m .answer) left ∙ ends-stopped p e budget (machineOf x) s k in
+        rw (i .reason, i .missing, k) (agrees p e y u (Ran (Stopped s)) j stops)
+    go reason.Spent k l h = absurd (omega (arith, ap reasonNumber k))

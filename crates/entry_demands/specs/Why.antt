@@ -1,0 +1,57 @@
+-- What `msa_why` answers (request 6/12): the first row that applies of document 01's two tables, with the word and the
+-- fact behind it, and of which kind the fact is; the number that `msa_step` answers on the same bytes, and with 17 its
+-- missing address; and after a run that stopped, the run's.
+use mathlib.Core.Path.{_≡_}
+use mathlib.Core.List.{List, _++_}
+use Prim.Native.Nat.{ℕ, _<_}
+use Rattle.memory.specs.Bytes.{AreBytes}
+use Rattle.state.specs.Machine.{Env}
+use Rattle.machine.specs.Why.{whyOf}
+use Rattle.entry.specs.declared.MsaStepped.{MsaStepped}
+use Rattle.entry.specs.declared.MsaEnded.{MsaEnded}
+use Rattle.entry.specs.declared.MsaWhy.{MsaWhy}
+use Rattle.entry.specs.Why.{explained}
+use Rattle.demands.specs.Limits.{limits}
+use Rattle.demands.specs.Reasons.{stops}
+use Rattle.demands.specs.Tables.{Says}
+use Rattle.entry_demands.specs.Calls.{Lent, machineOf, StepCall, Call}
+
+-- a call of `msa_why` on the lent bytes x that answers u; it is lent them for reading
+abbrev pub WhyCall : List ℕ → Env → Lent → MsaWhy → Type 0
+WhyCall p e x u = u ≡ explained (whyOf p e (machineOf x))
+
+-- the kind of the fact behind a number: 1 the counter, 2 the word, 3 the switch, 4 an address, 5 trap bits, and 0 where
+-- there is none
+pub data KindIs : ℕ → ℕ → Type 0 where
+  nothing : (n : ℕ) → n < 11 → KindIs n 0
+  counter : KindIs 11 1
+  word : (n : ℕ) → 11 < n → n < 16 → KindIs n 2
+  switch : KindIs 16 3
+  address : (n : ℕ) → 16 < n → n < 19 → KindIs n 4
+  bits : KindIs 19 5
+
+-- the call tells the first row that applies
+pub record Tells (p : List ℕ) (e : Env) (x : Lent) (u : MsaWhy) : Type 1 where
+  pub says : Says (limits p e (machineOf x) ++ stops p e (machineOf x)) (u .number) (u .word) (u .fact)
+  pub kind : KindIs (u .number) (u .kind)
+
+abbrev pub WhyCalled : Type 1
+WhyCalled = (p : List ℕ) (e : Env) (x : Lent) (u : MsaWhy) → WhyCall p e x u → Tells p e x u
+
+-- the number n with the missing address x
+pub record Agrees (u : MsaWhy) (n x : ℕ) : Type 0 where
+  pub number : u .number ≡ n
+  pub missing : n ≡ 17 → u .fact ≡ x
+
+-- beside a step on the same bytes
+abbrev pub WhyOfStep : Type 0
+WhyOfStep =
+    (p : List ℕ) (e : Env) (x y : Lent) (r : MsaStepped) (u : MsaWhy) → StepCall p e x r y → WhyCall p e x u
+    → Agrees u (r .reason) (r .missing)
+
+-- on the bytes that a run with a stop has left
+abbrev pub WhyOfRun : Type 0
+WhyOfRun =
+    (p : List ℕ) (e : Env) (budget : ℕ) (x y : Lent) (r : MsaEnded) (u : MsaWhy) → AreBytes (x .control)
+    → Call p e budget x r y → 10 < r .reason → r .reason < 20 → WhyCall p e y u
+    → Agrees u (r .reason) (r .missing)
