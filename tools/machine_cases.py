@@ -1,14 +1,14 @@
 #!/usr/bin/env python3
 """Writes crates/machine_test/stdin: the cases of step.txt, run.txt, kernels/*.vec, corners-step.txt and
 corners-run.txt, whole, each from the first folder that has it; document 01's edges of a set-up, and accesses about two
-windows that stop; a step of each mnemonic and format of ops.txt; and control blocks, those outside docs/LAYOUT.md among
-them.
+windows that stop; a step of each mnemonic and format of ops.txt; control blocks, those outside docs/LAYOUT.md among
+them; the cases of VECTORS-DIR/after-6 that name a reason, which have its word and its fact; and values for MSACSR.
 
 usage: tools/machine_cases.py VECTORS-DIR/after-1 VECTORS-DIR > crates/machine_test/stdin
 
 All numbers are little-endian. The cases follow each other, each begun by a byte 1:
 
-the head (84 bytes), the vector registers (513), the general registers (264) and the control block (280) before: kept
+the head (100 bytes), the vector registers (513), the general registers (264) and the control block (280) before: kept
     from case to case (zeros at first), and pieces each say what changes
 the contents before of program, table and work window: pieces each, put into windows that were filled with the pattern
     of the head
@@ -28,18 +28,21 @@ The head, by the place of each:
 24, 32, 40  bases of program, table, work window (8 each)
 48 to 68    lengths of vector registers, general registers, control block, program, table, work window (4 each)
 72, 76, 80  patterns of program, table, work window (4 each)
+84, 88, 92  what stands behind the reason: kind (4), word (4) and fact (8); of a step before it, of a run after it
 """
 import glob
 import os
 import struct
 import sys
 
-GROUPS = ["step", "run", "kernels", "corners-step", "corners-run", "edges", "forms", "blocks"]
+GROUPS = ["step", "run", "kernels", "corners-step", "corners-run", "edges", "forms", "blocks", "why"]
 RULES = "1 0 0"  # the requests that hold, as the r line of a case has them; they concern no word of a kernel
+LATER = "1 1 0"  # with request 2/12 too: alike but for its words
 KERNELS = ["beams", "correlate", "movavg", "peak", "threshold"]
 BLOCK = "<QQIHH"  # program counter, target, MSACSR, slot mark, MSA switch
 ADDV_W = 0x7842094E  # ADDV.W $w5,$w1,$w2
 LD_B, ST_B = 0x78000960, 0x78000964  # LD.B $w5,0($1), ST.B $w5,0($1)
+CTCMSA = 0x783E0859  # CTCMSA $1,$1: to MSACSR
 ODD = 0xFEDCBA9876543211  # a target that no set-up accepts of a taken mark
 
 
@@ -72,8 +75,9 @@ def parsed(path, group):
     for line in open(path):
         key, _, rest = line.rstrip("\n").partition(" ")
         if key == "end":
-            if fields["r"] == RULES or group == "kernels":
-                yield case_of(fields, group)
+            c = case_of(fields, group)
+            if fields["r"] == RULES or group == "kernels" or fields["r"] == LATER and not fixed_point(word_at(c)):
+                yield c
             fields = {}
         elif key != "#":
             fields[key] = rest
@@ -92,7 +96,45 @@ def case_of(f, group):
     c["number"] = KERNELS.index(number) + 1 if group == "kernels" else int(number)
     c["budget"] = int(f.get("b", "0"))
     c["reason"], c["count"], c["missing"] = int(reason), 0 if count == "-" else int(count), int(f["a"], 16)
+    assert "x" not in f or behind(c)[1:] == tuple(int(x, 16) for x in f["x"].split()), f["case"]
     return c
+
+
+def word_at(c, block="c"):
+    """The word at the program counter of a control block, and 0 where there is none."""
+    at = int.from_bytes(c[block][:8], "little") - c["pb"]
+    whole = 0 <= at <= len(c["p"]) - 4 and at % 4 == 0
+    return int.from_bytes(c["p"][at : at + 4], "little") if whole else 0
+
+
+def fixed_point(w):
+    """A multiply of request 2/12: 3RF, minor opcode 011100, operations 4 to 6 and 12 to 14."""
+    return w >> 26 == 0x1E and w & 63 == 0x1C and w >> 22 & 15 in (4, 5, 6, 12, 13, 14)
+
+
+KIND = {11: 1, 12: 2, 13: 2, 14: 2, 15: 2, 16: 3, 17: 4, 18: 4, 19: 5}
+
+
+def armed(v):
+    """The bits of a value for MSACSR that arm a trap."""
+    v &= 0x0107FFFF
+    return v & 0x20000 or v & v << 5 & 0x1F000
+
+
+def behind(c):
+    """Request 6/12: the kind of the fact, the word and the fact behind the reason of a case, by the machine before a
+    step and after a run."""
+    block, generals = ("C", "G") if c["entry"] == "run" else ("c", "g")
+    reason = c["reason"]
+    if reason not in KIND:
+        return 0, 0, 0
+    if reason == 11:
+        return 1, 0, int.from_bytes(c[block][:8], "little")
+    w = word_at(c, block)
+    x = int.from_bytes(c[generals][8 * (w >> 11 & 31) :][:8], "little")  # rs
+    offset = ((w >> 16 & 1023 ^ 512) - 512) << (w & 3)
+    facts = {16: 0, 17: c["missing"], 18: (x + offset) % 2**64, 19: armed(x)}
+    return KIND[reason], w, facts.get(reason, w)
 
 
 def edge(number, entry, reason, **given):
@@ -264,6 +306,20 @@ def blocks(cases):
     return [{**c, "group": "blocks", "number": n} for n, c in enumerate(out, 1)]
 
 
+def trap_values():
+    """CTCMSA of values with every choice of bits 16..12, beside the same, the other, all and no bits of 11..7, with and
+    without bit 17 and bits that MSACSR has not."""
+    for high in range(32):
+        for low in (high, 31 - high, 31, 0):
+            for more in (0, 0x20000, 0xFFFFFFFFFEF80000, 0xFFFFFFFFFEFA007F):
+                x = high << 12 | low << 7 | more
+                given = {"g": general_1(x), "p": struct.pack("<I", CTCMSA)}
+                if armed(x):
+                    yield edge(0, "step", 19, **given)
+                else:
+                    yield edge(0, "step", 0, **given, C=laid(4, csr=x & 0x0107FFFF))
+
+
 def pieces(old, new):
     """What changes old into new; places that stand less than four apart go together."""
     assert len(old) == len(new)
@@ -291,7 +347,7 @@ def head(c):
     h += struct.pack("<IIQ", c["reason"], c["count"], c["missing"])
     h += struct.pack("<QQQ", c["pb"], c["tb"], c["wb"])
     h += struct.pack("<6I", *(len(c[k]) for k in "vgcptw")) + b"".join(pattern(c[k]) for k in "ptw")
-    return h
+    return h + struct.pack("<IIQ", *behind(c))
 
 
 def record(c, kept):
@@ -316,7 +372,10 @@ def main():
     cases += edges()
     cases += forms(*newest("ops.txt"))
     cases += blocks(cases)
-    kept = [bytes(n) for n in (84, 513, 264, 280)]
+    shared = parsed(os.path.join(sys.argv[-1], "after-6", "step.txt"), "why")
+    why = [*(c for c in shared if c["reason"]), *trap_values()]
+    cases += [{**c, "group": "why", "number": n} for n, c in enumerate(why, 1)]
+    kept = [bytes(n) for n in (100, 513, 264, 280)]
     for c in cases:
         text, kept = record(c, kept)
         sys.stdout.buffer.write(text)

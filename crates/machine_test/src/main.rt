@@ -1,6 +1,6 @@
 // Replays the cases of standard input through the C entry, `msa_step` and `msa_run`, and compares the answer with its
-// missing address, every register, the control block and the work window, byte for byte. tools/machine_cases.py says
-// what a case is made of.
+// missing address, every register, the control block and the work window, byte for byte; and what `msa_why` says before
+// a step and after a run. tools/machine_cases.py says what a case is made of.
 mod head;
 mod pieces;
 mod tally;
@@ -9,9 +9,26 @@ use crate::tally::Tally;
 ghost use mathlib.Core.Path.{_≡_};
 ghost use lib.ListN.{length};
 
+// Whether `msa_why` says of this memory what the head has.
+fn told(
+    h: [u8; 100],
+    program: &[u8],
+    table: &[u8],
+    vectors: &[u8],
+    generals: &[u8],
+    work: &[u8],
+    control: &[u8],
+) -> bool {
+    let p = head::base(h, 0);
+    let t = head::base(h, 1);
+    let w = head::base(h, 2);
+    let y = entry::msa_why(program, p, table, t, vectors, generals, work, w, control);
+    head::why_agrees(h, y.number, y.kind, y.word, y.fact)
+}
+
 // Calls what the head names on these registers and windows; whether the answer is the head's.
 fn called(
-    h: [u8; 84],
+    h: [u8; 100],
     program: &[u8],
     table: &[u8],
     vectors: &mut [u8],
@@ -36,15 +53,17 @@ fn called(
             control,
             budget,
         );
-        return head::run_agrees(h, r.reason, r.count, r.missing);
+        let after = told(h, program, table, vectors, generals, work, control);
+        return after & head::run_agrees(h, r.reason, r.count, r.missing);
     }
+    let before = told(h, program, table, vectors, generals, work, control);
     let s = entry::msa_step(program, p, table, t, vectors, generals, work, w, control);
-    head::step_agrees(h, s.reason, s.missing)
+    before & head::step_agrees(h, s.reason, s.missing)
 }
 
 // The same on the part of each that the head says.
 fn ran(
-    h: [u8; 84],
+    h: [u8; 100],
     program: &[u8],
     table: &[u8],
     vectors: &mut [u8],
@@ -71,7 +90,7 @@ fn ran(
 
 // Reads the windows before; `want` has the work window's bytes too.
 fn read_windows(
-    h: [u8; 84],
+    h: [u8; 100],
     program: &mut [u8],
     table: &mut [u8],
     work: &mut [u8],
@@ -85,7 +104,7 @@ fn read_windows(
 
 // Reads the contents after, runs the case and compares.
 fn agrees_after(
-    h: [u8; 84],
+    h: [u8; 100],
     vectors: [u8; 513],
     generals: [u8; 264],
     control: [u8; 280],
@@ -113,7 +132,7 @@ fn agrees_after(
 // Reads the next case, runs it and compares. The head, and the registers and the control block before, are kept from
 // case to case.
 fn agrees(
-    h: &mut [u8; 84],
+    h: &mut [u8; 100],
     vectors: &mut [u8; 513],
     generals: &mut [u8; 264],
     control: &mut [u8; 280],
@@ -146,7 +165,7 @@ fn more() -> bool {
 }
 
 fn replay_all(program: &mut [u8], table: &mut [u8], work: &mut [u8], want: &mut [u8]) -> Tally {
-    let mut h = [0u8; 84];
+    let mut h = [0u8; 100];
     let mut v = [0u8; 513];
     let mut g = [0u8; 264];
     let mut c = [0u8; 280];

@@ -3,15 +3,15 @@ use crate::head;
 use std::num::wrapping_add_u64;
 
 pub struct Tally {
-    pub cases: [u64; 8],
-    pub agree: [u64; 8],
+    pub cases: [u64; 9],
+    pub agree: [u64; 9],
     pub reached: [u64; 32],
 }
 
 pub fn none() -> Tally {
     Tally {
-        cases: [0; 8],
-        agree: [0; 8],
+        cases: [0; 9],
+        agree: [0; 9],
         reached: [0; 32],
     }
 }
@@ -39,13 +39,16 @@ fn name(group: u8) {
         6 => {
             io::write_all(1, b"forms");
         }
-        _ => {
+        7 => {
             io::write_all(1, b"blocks");
+        }
+        _ => {
+            io::write_all(1, b"why");
         }
     }
 }
 
-fn differs(h: [u8; 84]) {
+fn differs(h: [u8; 100]) {
     name(h[0]);
     io::write_all(1, b" case ");
     io::print_decimal(1, head::number(h));
@@ -53,11 +56,11 @@ fn differs(h: [u8; 84]) {
 }
 
 // The tally with one case more.
-pub fn with(t: Tally, h: [u8; 84], agrees: bool) -> Tally {
+pub fn with(t: Tally, h: [u8; 100], agrees: bool) -> Tally {
     let mut cases = t.cases;
     let mut agree = t.agree;
     let mut reached = t.reached;
-    let k = (h[0] % 8) as usize;
+    let k = (h[0] % 9) as usize;
     let r = (h[8] % 32) as usize;
     cases[k] = wrapping_add_u64(cases[k], 1);
     if agrees {
@@ -89,9 +92,9 @@ fn reason(n: usize, times: u64) {
     }
 }
 
-fn lines(agree: [u64; 8], cases: [u64; 8]) {
+fn lines(agree: [u64; 9], cases: [u64; 9]) {
     let mut k: usize = 0;
-    while k < 8 {
+    while k < 9 {
         line(k as u8, agree[k], cases[k]);
         k += 1;
     }
