@@ -38,7 +38,8 @@ missing += ["label without an edit: " + label for label in sorted(named - gate -
 UNIQUE = {
     "Checks": "one-setup", "Element": "one-element", "Fetches": "one-fetched", "Holds": "one-register",
     "Lists": "line-unique", "Puts": "put-unique", "Reads": "read-unique", "RunIs": "one-run", "RunsTo": "one-run",
-    "StepsTo": "one-step", "WholeIs": "one-step", "Writes": "write-unique",
+    "StepIs": "one-advance", "StepsTo": "one-step", "WholeIs": "one-step", "WhyIs": "one-why",
+    "Writes": "write-unique",
 }
 
 
