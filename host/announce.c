@@ -82,11 +82,11 @@ static void say(uint32_t reason) { printf("    reason %" PRIu32 ": %s\n", reason
 static void explain(uint32_t reason, struct msa_why why) {
     say(reason);
     if (reason == MSA_SPENT) {
-        printf("    The next instruction would %sbe done.\n", why.number == MSA_FINISHED ? "" : "not ");
+        printf("    The next step would %s.\n", why.number == MSA_FINISHED ? "be done" : "stop");
         if (why.number != MSA_FINISHED) say(why.number);
     }
-    if (why.number >= MSA_UNASSIGNED) printf("    word: %08" PRIX32 "\n", why.word);
-    if (why.kind != MSA_KIND_NOTHING) printf("    fact: %s, 0x%" PRIX64 "\n", msa_kind_text(why.kind), why.fact);
+    if (why.number >= MSA_UNASSIGNED) printf("    word 0x%08" PRIX32 "\n", why.word);
+    if (why.kind != MSA_KIND_NOTHING) printf("    fact 0x%" PRIX64 ": %s\n", why.fact, msa_kind_text(why.kind));
 }
 
 /* Runs the kernel on a ping. Answers 1 and the result where the cell holds this ping's own; else 0. */

@@ -6,8 +6,8 @@
  * Each case is run in up to three ways: as it stands; with a target that a mark other than 2
  * must leave unread; a step also as a run of budget 1; a run also step by step.
  *
- * Before each step, and on the bytes that each run left, msa_why is called too: its number, kind, word and fact
- * are compared, and that no lent byte is changed. It is called again on read-only pages, once with a page
+ * Before each step case, and on the bytes that each run has left, msa_why is called too: its number, kind, word and
+ * fact are compared, and that no lent byte is changed. It is called again on read-only pages, once with a page
  * that nothing may touch behind every slice and once with one before it: there a wrong access ends the program.
  *
  * Cases of rules that the archive does not have are left out and counted: big-endian ones, and those of the
@@ -470,10 +470,25 @@ static void traps(void) {
     printf("traps: %u of %u cases agree\n", agree, cases);
 }
 
+/* each number and each kind has a sentence of its own */
+static void texts(void) {
+    unsigned cases = 0, own = 0;
+    for (uint32_t i = 0; i <= MSA_SPENT; i++) {
+        if (i > MSA_REFUSED_STATE && i < MSA_NO_WORD) continue;
+        cases++;
+        own += strcmp(msa_reason_text(i), msa_reason_text(UINT32_MAX)) != 0;
+    }
+    for (uint32_t i = 0; i <= MSA_KIND_TRAP; i++, cases++)
+        own += strcmp(msa_kind_text(i), msa_kind_text(UINT32_MAX)) != 0;
+    differences += cases - own;
+    printf("texts: %u of %u\n", own, cases);
+}
+
 int main(int n, char **names) {
     for (int i = 1; i < n; i++) replay(names[i]);
     blocks();
     traps();
+    texts();
     printf("msa_why: %lu calls on fenced read-only pages\n", fenced_calls);
     return differences != 0;
 }

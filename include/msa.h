@@ -93,11 +93,14 @@ enum msa_kind {
     MSA_KIND_WORD = 2, /* of 12 to 15: the word at the program counter */
     MSA_KIND_SWITCH = 3, /* of 16: the MSA switch, MSA_SWITCH_OFF */
     MSA_KIND_ADDRESS = 4, /* of 17: `missing` of msa_step; of 18: the first address of the store */
-    MSA_KIND_TRAP = 5 /* of 19, of the value for MSACSR: bit 17 if set, else those of 16 to 12 that 11 to 7 share */
+    MSA_KIND_TRAP = 5 /* of 19: bit 17 (0x20000) of the value for MSACSR if set, else those of 16 to 12 that 11 to 7
+                         share, at their places */
+    /* 6 and 7 are kept for a vector register and a control register */
 };
 
 /* What msa_why answers. Read `number` first: it says whether there are a word and a fact; each may be 0 and still be
- * there (the word 0 is no instruction, 14; the address 0 may be the one that is missing, 17).
+ * there (the word 0 is no instruction, 14; the address 0 may be the one that is missing, 17). In C++ the function hides
+ * the struct of the same name: write `struct msa_why`.
  */
 struct msa_why {
     uint16_t number; /* of enum msa_answer: what msa_step would answer, so never MSA_SPENT */
@@ -123,8 +126,8 @@ struct msa_ended msa_run(const uint8_t *program, size_t program_bytes, uint64_t 
                          uint8_t *control, size_t control_bytes,
                          uint32_t budget);
 
-/* Why the next step would stop, or that it would not; no byte is changed. Of the bytes that a run left it names the
- * reason of that run, with its word and fact; after MSA_SPENT it says what would come next.
+/* Why the next step would stop, or that it would not; no byte is changed. Of the bytes that a run has left it names
+ * that run's refusal or stop, with its word and fact; after MSA_SPENT it says what would come next.
  */
 struct msa_why msa_why(const uint8_t *program, size_t program_bytes, uint64_t program_base,
                        const uint8_t *table, size_t table_bytes, uint64_t table_base,
@@ -143,7 +146,7 @@ static inline const char *msa_reason_text(uint32_t number) {
     case MSA_REFUSED_REGISTERS:
         return "The host program lent vector registers that are not 512 bytes, or general registers that are not 256.";
     case MSA_REFUSED_PROGRAM:
-        return "The host program lent a kernel of broken words, of over 65,536 words, or at an address it cannot have.";
+        return "The host program lent a kernel of no whole words, of over 65,536, or at an address it cannot have.";
     case MSA_REFUSED_WINDOW:
         return "The host program lent a memory window of over 1,048,576 bytes, or one that passes the last address.";
     case MSA_REFUSED_SHARED:
@@ -153,13 +156,13 @@ static inline const char *msa_reason_text(uint32_t number) {
     case MSA_NO_WORD:
         return "The program counter is at no word of the kernel: this is how a kernel usually ends.";
     case MSA_UNASSIGNED:
-        return "The kernel is wrong or damaged: its next word is a vector word (MSA) that the manual gives no meaning.";
+        return "The kernel is wrong or damaged: its next word is a vector word (MSA) of no meaning in the manual.";
     case MSA_LEFT_OUT:
         return "The kernel needs a vector instruction (MSA) of the manual that this emulator leaves out.";
     case MSA_OTHER_WORD:
         return "The kernel is wrong or damaged: its next word is no vector word (MSA), and not LSA, DLSA, BZ or BNZ.";
     case MSA_BRANCH_IN_SLOT:
-        return "The kernel is wrong: it has a branch in the place right behind another branch, where none may stand.";
+        return "A branch stands right behind another branch, where none may: in the kernel, or as the host lent it.";
     case MSA_SWITCHED_OFF:
         return "The next instruction needs the vector unit (MSA), which the host program has switched off.";
     case MSA_NO_WINDOW:
@@ -175,16 +178,23 @@ static inline const char *msa_reason_text(uint32_t number) {
     }
 }
 
-/* what the fact is, in a few words */
+/* what the fact is, in one sentence that can be read aloud behind it */
 static inline const char *msa_kind_text(uint32_t kind) {
     switch (kind) {
-    case MSA_KIND_NOTHING: return "no fact";
-    case MSA_KIND_COUNTER: return "the program counter";
-    case MSA_KIND_WORD: return "the word at the program counter";
-    case MSA_KIND_SWITCH: return "the MSA switch";
-    case MSA_KIND_ADDRESS: return "the address at fault";
-    case MSA_KIND_TRAP: return "the bits that arm the trap";
-    default: return "no kind of fact has this number";
+    case MSA_KIND_NOTHING:
+        return "There is no fact.";
+    case MSA_KIND_COUNTER:
+        return "This is the program counter: the address at which a word of the kernel is looked for.";
+    case MSA_KIND_WORD:
+        return "This is the word at the program counter.";
+    case MSA_KIND_SWITCH:
+        return "This is the switch of the vector unit (MSA): 0 is off.";
+    case MSA_KIND_ADDRESS:
+        return "This is a memory address: with 17 the first byte that is missing, with 18 the first to be written.";
+    case MSA_KIND_TRAP:
+        return "These are the bits that arm the trap, each at its place in MSACSR.";
+    default:
+        return "No kind of fact has this number.";
     }
 }
 

@@ -18,6 +18,7 @@ use Rattle.plan.specs.declared.Plan.{Plan}
 use Rattle.plan.specs.declared.Plan.the-variants as plan
 use Rattle.plan.specs.Numbers.{address}
 use Rattle.plan.specs.Plan.{planOf, accessed, loaded, stored, toControl, generalAt, switchedEarly, unless}
+use Rattle.plan.proofs.PlanLaws.{control-cases}
 use Rattle.state.specs.declared.setup.Setup.the-variants.{Accepted}
 use Rattle.state.specs.declared.stops.Stop.{Stop}
 use Rattle.state.specs.declared.stops.Stop.the-variants.{SwitchedOff, Trap}
@@ -25,7 +26,6 @@ use Rattle.state.specs.declared.windows.Spot.{Spot}
 use Rattle.state.specs.declared.windows.Spot.the-variants.{Table, Work, Outside}
 use Rattle.state.specs.Csr.{masked, arms, arming}
 use Rattle.state.specs.Machine.{Env, Machine}
-use Rattle.state.specs.Numbers.{stopCarried}
 use Rattle.state.specs.Setup.{refusal}
 use Rattle.state.specs.Windows.{missing, spotOf}
 use Rattle.state.proofs.Named.{Named, refused, stopped, neither, named, named-stop}
@@ -33,27 +33,24 @@ use Rattle.state.proofs.SetupLaws.{accepted}
 use Rattle.state.proofs.WindowLaws.{spot-outside}
 use Rattle.machine.specs.declared.step.Outcome.{Outcome}
 use Rattle.machine.specs.declared.step.Outcome.the-variants.{Finished, Stopped}
-use Rattle.machine.specs.Numbers.{ofOutcome, outcomeNumber}
+use Rattle.machine.specs.Numbers.{outcomeNumber, outcomeCarried}
 use Rattle.machine.specs.Step.{stepOf, outcomeOf}
 use Rattle.demands.specs.AtCounter.{Accesses, at, SetsCsr, to, general, ReadsAs}
 use Rattle.demands.proofs.Reasons.{general-at, step-plans, below, accesses, accessing}
 
 -- ---- an outcome by its number
 
-abbrev pub carried : Outcome → ℕ
-carried o = ofOutcome stopCarried o
-
 abbrev pub asOutcome : Named → Outcome
 asOutcome (refused r) = Finished
 asOutcome (stopped s) = Stopped s
 asOutcome neither = Finished
 
-outcome-back : (o : Outcome) → asOutcome (named (outcomeNumber o) (carried o)) ≡ o
+outcome-back : (o : Outcome) → asOutcome (named (outcomeNumber o) (outcomeCarried o)) ≡ o
 outcome-back Finished = refl
 outcome-back (Stopped s) = ap asOutcome (named-stop s)
 
-pub outcome-is : (o : Outcome) (k : ℕ) → outcomeNumber o ≡ k → o ≡ asOutcome (named k (carried o))
-outcome-is o k h = sym (outcome-back o) ∙ ap (λ n. asOutcome (named n (carried o))) h
+pub outcome-is : (o : Outcome) (k : ℕ) → outcomeNumber o ≡ k → o ≡ asOutcome (named k (outcomeCarried o))
+outcome-is o k h = sym (outcome-back o) ∙ ap (λ n. asOutcome (named n (outcomeCarried o))) h
 
 -- ---- a load or store at a
 
@@ -62,7 +59,8 @@ module _ (e : Env) (m : Machine) where
   missingFrom a = missing (e .bases) (length (e .table)) (length (m .work)) a
 
   abbrev pub Carrying : ℕ → Outcome → Type 0
-  Carrying a o = (outcomeNumber o ≡ 17 → carried o ≡ missingFrom a) × (outcomeNumber o ≡ 18 → carried o ≡ a)
+  Carrying a o =
+      (outcomeNumber o ≡ 17 → outcomeCarried o ≡ missingFrom a) × (outcomeNumber o ≡ 18 → outcomeCarried o ≡ a)
 
   -- an outcome with neither number
   silent : (a : ℕ) (o : Outcome) → (outcomeNumber o ≡ 17 → ⊥) → (outcomeNumber o ≡ 18 → ⊥) → Carrying a o
@@ -123,14 +121,14 @@ access-carries p e m ok {f = f} here (at {k = k} {df = df} {wd = wd} {offset = o
 -- ---- a CTCMSA of x
 
 abbrev pub Armed : ℕ → Outcome → Type 0
-Armed x o = outcomeNumber o ≡ 19 → carried o ≡ arming (masked x)
+Armed x o = outcomeNumber o ≡ 19 → outcomeCarried o ≡ arming (masked x)
 
 control-armed : (x : ℕ) (one? trap? : Bool)
     → Armed x
     (outcomeOf (cond one? (cond trap? (plan.Stop (Trap (arming (masked x)))) (plan.Csr (masked x))) plan.Nothing))
-control-armed x true true h = refl
-control-armed x true false h = absurd (omega arith)
-control-armed x false trap? h = absurd (omega arith)
+control-armed x =
+    control-cases (λ q. Armed x (outcomeOf q)) (arming (masked x)) (masked x) (λ h. refl) (λ h. absurd (omega arith))
+    (λ h. absurd (omega arith))
 
 switched-armed : (x : ℕ) (on : Bool) (q : Plan) → Armed x (outcomeOf q)
     → Armed x (outcomeOf (unless (switchedEarly on) q))

@@ -11,7 +11,7 @@ use lib.Dec.{eqb}
 use lib.Pow.{field, mod-mod-pow, pow-mono, shr-shr}
 use Rattle.state.specs.Csr.{masked, bit, arms}
 use Rattle.state.proofs.TestLaws.{and-left, and-right}
-use Rattle.demands.specs.AtCounter.{Left, Arms}
+use Rattle.demands.specs.AtCounter.{Left, SharedBit, Arms}
 use Rattle.demands.specs.Tables.{Not, Some, Bit, csrBits}
 use Rattle.demands.proofs.Reflects.{Reflects, likewise, eq-reflects, or-reflects, and-reflects, not-reflects}
 
@@ -66,8 +66,24 @@ module _ (x : ℕ) where
   abbrev Pairs : Type 0
   Pairs = ((((Left x 17 ⊎ Pair 4) ⊎ Pair 3) ⊎ Pair 2) ⊎ Pair 1) ⊎ Pair 0
 
+  -- position j of the five as bit 12 + j
+  pub shares : (k : ℕ) → 12 ≤ k → k < 17 → Pair (k - 12) → SharedBit x k
+  shares k l h p =
+      let e : 12 + (k - 12) ≡ k = omega arith in
+      let f : 7 + (k - 12) ≡ k - 5 = omega arith in
+      (l, h, rw e at (p .0), rw f at (p .1))
+
+  pub shared-pair : (k : ℕ) → SharedBit x k → Pair (k - 12)
+  shared-pair k s =
+      let l = s .0 in
+      let e : 12 + (k - 12) ≡ k = omega arith in
+      let f : 7 + (k - 12) ≡ k - 5 = omega arith in
+      (rw e (s .2), rw f (s .3))
+
   some : (k : ℕ) → k < 5 → Pair k → Arms x
-  some k h p = inr (record { number = k; holds = (h, p .0, p .1) })
+  some k h p =
+      let e : 12 + k - 12 ≡ k = omega arith in
+      inr (record { number = 12 + k; holds = shares (12 + k) (omega arith) (omega arith) (rw e p) })
 
   pairs-of : (k : ℕ) → k < 5 → Pair k → Pairs
   pairs-of zero h p = inr p
@@ -85,7 +101,11 @@ module _ (x : ℕ) where
 
   arm-pairs : Arms x → Pairs
   arm-pairs =
-      ⊎-elim (λ l. inl (inl (inl (inl (inl l))))) (λ s. pairs-of (s .number) (s .holds .0) (s .holds .1, s .holds .2))
+      ⊎-elim (λ l. inl (inl (inl (inl (inl l)))))
+      (λ s.
+      let l = s .holds .0 in
+      let h = s .holds .1 in
+      pairs-of (s .number - 12) (omega arith) (shared-pair (s .number) (s .holds)))
 
   -- 19: the machine's test of the value that it keeps
   pub arms-reflects : Reflects (arms (masked x)) (Arms x)

@@ -2,7 +2,6 @@
 -- with 17.
 -- Assumes nothing.
 use mathlib.Core.Path.{_≡_, refl, sym, ap, _∙_, subst}
-use mathlib.Core.Bool.{Bool, true, false, cond}
 use mathlib.Core.List.{List}
 use Prim.Native.Nat.{ℕ, zero, suc, _+_, _-_, _≤_, _<_}
 use native.Mathlib.Decide.{decLe}
@@ -28,11 +27,12 @@ use Rattle.plan.specs.declared.planned.Early.{Early}
 use Rattle.plan.specs.declared.planned.Early.the-variants.{Go, Stops}
 use Rattle.plan.specs.Numbers.{address}
 use Rattle.plan.specs.Plan.{planOf, executed, early, unless, kindOf, accessed, loaded, stored, writes, generalAt}
+use Rattle.plan.proofs.PlanLaws.{control-cases}
 use Rattle.reading.specs.Reading.{readOf}
 use Rattle.state.specs.declared.control.Control.{Control}
 use Rattle.state.specs.declared.fetch.Fetched.{Fetched}
 use Rattle.state.specs.declared.fetch.Fetched.the-variants as fetch
-use Rattle.state.specs.declared.stops.Stop.the-variants.{NoWord, Unread, NoWindow, Trap}
+use Rattle.state.specs.declared.stops.Stop.the-variants.{NoWord, Unread, NoWindow}
 use Rattle.state.specs.declared.windows.Found.{Found}
 use Rattle.state.specs.declared.windows.Found.the-variants.{At, Nowhere}
 use Rattle.state.specs.Csr.{masked, arms, arming}
@@ -212,12 +212,6 @@ module _ (table : List ℕ) (pb tb b₁ b₂ : ℕ) (v g : List ℕ) (c : Contro
   accessed-alike St wd a =
       store-alike a (registerAt v wd) _ _ (placed tb (length table) a) (placed b₁ (length w₁) a) refl
 
-  control-alike : (one? trap? : Bool) (bits x : ℕ)
-      → InWindow b₁ (length w₁) (cond one? (cond trap? (plan.Stop (Trap bits)) (plan.Csr x)) plan.Nothing)
-  control-alike true true bits x = tt
-  control-alike true false bits x = tt
-  control-alike false trap? bits x = tt
-
   executed-alike : (i : Instr) → Plans (executed e₁ m₁ i) (executed e₂ m₂ i)
   executed-alike (instr.Three o df wd ws wt) = same refl tt
   executed-alike (instr.Indexed o df wd ws rt) = same refl tt
@@ -234,7 +228,8 @@ module _ (table : List ℕ) (pb tb b₁ b₂ : ℕ) (v g : List ℕ) (c : Contro
   executed-alike (instr.Move wd ws) = same refl tt
   executed-alike (instr.Cfcmsa rd cs) = same refl tt
   executed-alike (instr.Ctcmsa cd rs) =
-      let x = masked (generalAt g rs) in same refl (control-alike (eqb (cd .0) 1) (arms x) (arming x) x)
+      let x = masked (generalAt g rs) in
+      same refl (control-cases (InWindow b₁ (length w₁)) (arming x) x tt tt tt (eqb (cd .0) 1) (arms x))
   executed-alike (instr.Vec o wd ws wt) = same refl tt
   executed-alike (instr.Fill df wd rs) = same refl tt
   executed-alike (instr.Count o df wd ws) = same refl tt

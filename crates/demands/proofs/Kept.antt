@@ -32,12 +32,12 @@ use Rattle.plan.specs.declared.planned.Early.the-variants.{Go, Stops}
 use Rattle.plan.specs.Numbers.{address, target}
 use Rattle.plan.specs.Plan.{planOf, executed, accessed, loaded, stored, generalAt, marked, kindOf, early, unless}
 use Rattle.plan.specs.There.{There}
+use Rattle.plan.proofs.PlanLaws.{control-cases}
 use Rattle.plan.specs.Zero.{takenOf, takenVOf}
 use Rattle.state.specs.declared.control.Control.{Control}
 use Rattle.state.specs.declared.control.Mark.{Mark}
 use Rattle.state.specs.declared.control.Mark.the-variants.{Clear, NotTaken, Taken}
 use Rattle.state.specs.declared.setup.Setup.the-variants.{Accepted, Refused}
-use Rattle.state.specs.declared.stops.Stop.the-variants.{Trap}
 use Rattle.state.specs.declared.windows.Spot.{Spot}
 use Rattle.state.specs.declared.windows.Spot.the-variants.{Table, Work, Outside}
 use Rattle.state.specs.Csr.{masked, arms, arming}
@@ -150,12 +150,6 @@ module _ (e : Env) (m : Machine) where
   accessed-within St wd a =
       stored-within (spotOf (e .bases) (length (e .table)) (length (m .work)) a) a (registerAt (m .vec) wd)
 
-  control-within : (one? trap? : Bool) (bits x : ℕ)
-      → Kept (cond one? (cond trap? (plan.Stop (Trap bits)) (plan.Csr (masked x))) plan.Nothing)
-  control-within true true bits x = tt
-  control-within true false bits x = masked-twice x
-  control-within false trap? bits x = tt
-
   executed-within : (i : Instr) → Kept (executed e m i)
   executed-within (instr.Three o df wd ws wt) = tt
   executed-within (instr.Indexed o df wd ws rt) = tt
@@ -172,7 +166,8 @@ module _ (e : Env) (m : Machine) where
   executed-within (instr.Move wd ws) = tt
   executed-within (instr.Cfcmsa rd cs) = tt
   executed-within (instr.Ctcmsa cd rs) =
-      let x = generalAt (m .gen) rs in control-within (eqb (cd .0) 1) (arms (masked x)) (arming (masked x)) x
+      let x = generalAt (m .gen) rs in
+      control-cases Kept (arming (masked x)) (masked x) tt (masked-twice x) tt (eqb (cd .0) 1) (arms (masked x))
   executed-within (instr.Vec o wd ws wt) = tt
   executed-within (instr.Fill df wd rs) = tt
   executed-within (instr.Count o df wd ws) = tt

@@ -26,7 +26,7 @@ use Rattle.machine.specs.declared.step.Answer.{Answer}
 use Rattle.machine.specs.declared.step.Outcome.{Outcome}
 use Rattle.machine.specs.declared.step.Outcome.the-variants.{Finished, Stopped}
 use Rattle.machine.specs.Numbers.{outcomeNumber, answerNumber, reasonNumber}
-use Rattle.machine.specs.Numbers.{outcomeMissing, answerMissing, reasonMissing}
+use Rattle.machine.specs.Numbers.{outcomeMissing, answerMissing, reasonMissing, outcomeCarried}
 use Rattle.machine.specs.Run.{wholeRun}
 use Rattle.machine.specs.Step.{stepOf, whole, wholeStep}
 use Rattle.machine.proofs.RunLaws.{same-machine}
@@ -34,12 +34,12 @@ use Rattle.machine.proofs.Said.{answer-is, reason-is}
 use Rattle.demands.specs.Demand1.{Why, spent, stopped}
 use Rattle.demands.specs.Limits.{limits}
 use Rattle.demands.specs.Missing.{FirstOutside, TableHolds, WorkHolds, Missing, table, work, nowhere}
-use Rattle.demands.specs.Missing.{OneMissing, Carries, StepMissing, RunMissing}
+use Rattle.demands.specs.Missing.{OneMissing, Names, StepMissing, RunMissing}
 use Rattle.demands.specs.AtCounter.{Accesses, at, InTable, InWork, Does}
 use Rattle.demands.specs.Reasons.{stops}
 use Rattle.demands.specs.Tables.{First, none, Not, Inside}
 use Rattle.demands.proofs.Answers.{refusal-between}
-use Rattle.demands.proofs.Carried.{carried, outcome-is, missingFrom, access-map, access-carries}
+use Rattle.demands.proofs.Carried.{outcome-is, missingFrom, access-map, access-carries}
 use Rattle.demands.proofs.Demand1.{accepted-run, refused-run}
 use Rattle.demands.proofs.Kept.{steps-accepted}
 use Rattle.demands.proofs.Limits.{first-limit}
@@ -176,7 +176,7 @@ one-missing p e m ok n x y c d = go (ℕ-discrete n 17)
 
 -- ---- a step
 
--- no other number carries an address
+-- no other number names an address
 stop-none : (s : Stop) → Not (stopNumber s ≡ 17) → stopMissing s ≡ 0
 stop-none stop.NoWord h = refl
 stop-none (stop.Unread u) h = refl
@@ -208,13 +208,13 @@ module _ (p : List ℕ) (e : Env) (m : Machine) where
   abbrev pub ends : Outcome
   ends = stepOf p e m .outcome
 
-  -- an access in neither window stops with 17 and carries the address that is missing
-  pub accepted-carries : refusal p e m ≡ Accepted → Carries p e m (outcomeNumber ends) (outcomeMissing ends)
-  accepted-carries ok =
+  -- an access in neither window stops with 17 and names the address that is missing
+  pub accepted-names : refusal p e m ≡ Accepted → Names p e m (outcomeNumber ends) (outcomeMissing ends)
+  accepted-names ok =
       record {
         missing = λ h.
             let d = seventeen p e m (outcomeNumber ends) h (first-reason p e m ok) in
-            let is : outcomeMissing ends ≡ carried ends = ap outcomeMissing (outcome-is ends 17 h) in
+            let is : outcomeMissing ends ≡ outcomeCarried ends = ap outcomeMissing (outcome-is ends 17 h) in
             record {
               instruction = d .instruction;
               reads = d .reads;
@@ -226,52 +226,52 @@ module _ (p : List ℕ) (e : Env) (m : Machine) where
       }
 
   -- an answer with another number
-  nothing : (n : ℕ) → Not (n ≡ 17) → Carries p e m n 0
+  nothing : (n : ℕ) → Not (n ≡ 17) → Names p e m n 0
   nothing n h = record { missing = λ k. absurd (h k); none = λ k. refl }
 
-  refused-carries : (r : Refusal) → Carries p e m (refusalNumber r) 0
-  refused-carries r = nothing (refusalNumber r) (λ h. omega (arith, refusal-between r .1))
+  refused-names : (r : Refusal) → Names p e m (refusalNumber r) 0
+  refused-names r = nothing (refusalNumber r) (λ h. omega (arith, refusal-between r .1))
 
 -- the definition's step
-pub step-carries : (p : List ℕ) (e : Env) (m : Machine)
-    → Carries p e m (answerNumber (wholeStep p e m .answer)) (answerMissing (wholeStep p e m .answer))
-step-carries p e m = go (refusal p e m) refl
+pub step-names : (p : List ℕ) (e : Env) (m : Machine)
+    → Names p e m (answerNumber (wholeStep p e m .answer)) (answerMissing (wholeStep p e m .answer))
+step-names p e m = go (refusal p e m) refl
   where
     answered : Setup → Answer
     answered q = whole q (stepOf p e m) m .answer
 
-    go : (q : Setup) → refusal p e m ≡ q → Carries p e m (answerNumber (answered q)) (answerMissing (answered q))
-    go Accepted h = accepted-carries p e m h
-    go (Refused r) h = refused-carries p e m r
+    go : (q : Setup) → refusal p e m ≡ q → Names p e m (answerNumber (answered q)) (answerMissing (answered q))
+    go Accepted h = accepted-names p e m h
+    go (Refused r) h = refused-names p e m r
 
 pub step-missing : StepMissing
-step-missing p e m r v g w i = rw (answer-is i) (step-carries p e m)
+step-missing p e m r v g w i = rw (answer-is i) (step-names p e m)
 
 -- ---- a run
 
 module _ (p : List ℕ) (e : Env) (budget : ℕ) where
   -- where it ended
-  why-carries : (count : ℕ) (m : Machine) (r : Reason) → refusal p e m ≡ Accepted → Why p e budget count m r
-      → Carries p e m (reasonNumber r) (reasonMissing r)
-  why-carries count m r ok (spent h) = nothing p e m 20 (λ k. omega arith)
-  why-carries count m r ok (stopped s l h) = rw h at (accepted-carries p e m ok)
+  why-names : (count : ℕ) (m : Machine) (r : Reason) → refusal p e m ≡ Accepted → Why p e budget count m r
+      → Names p e m (reasonNumber r) (reasonMissing r)
+  why-names count m r ok (spent h) = nothing p e m 20 (λ k. omega arith)
+  why-names count m r ok (stopped s l h) = rw h at (accepted-names p e m ok)
 
   -- the definition's run
-  pub run-carries : (m : Machine)
-      → Carries p e (wholeRun p e budget m .after) (reasonNumber (wholeRun p e budget m .reason))
+  pub run-names : (m : Machine)
+      → Names p e (wholeRun p e budget m .after) (reasonNumber (wholeRun p e budget m .reason))
       (reasonMissing (wholeRun p e budget m .reason))
-  run-carries m = go (refusal p e m) refl
+  run-names m = go (refusal p e m) refl
     where
       go : (q : Setup) → refusal p e m ≡ q
-          → Carries p e (wholeRun p e budget m .after) (reasonNumber (wholeRun p e budget m .reason))
+          → Names p e (wholeRun p e budget m .after) (reasonNumber (wholeRun p e budget m .reason))
           (reasonMissing (wholeRun p e budget m .reason))
       go Accepted h =
           let ends = accepted-run p e budget m h in
-          why-carries _ _ _ (steps-accepted p e _ m _ (ends .steps) h) (ends .why)
-      go (Refused r) h = rw (refused-run p e budget m r h) (refused-carries p e m r)
+          why-names _ _ _ (steps-accepted p e _ m _ (ends .steps) h) (ends .why)
+      go (Refused r) h = rw (refused-run p e budget m r h) (refused-names p e m r)
 
 pub run-missing : RunMissing
 run-missing p e budget m r v g w i =
     let s = wholeRun p e budget m in
     rw (reason-is i, ← same-machine (s .after) v g w (r .control) (i .vec) (i .gen) (i .work) (i .control))
-    (run-carries p e budget m)
+    (run-names p e budget m)

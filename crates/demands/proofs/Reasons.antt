@@ -43,7 +43,7 @@ use Rattle.state.specs.Windows.{placed, orElse}
 use Rattle.state.proofs.SetupLaws.{Sized, accepted}
 use Rattle.machine.specs.Numbers.{outcomeNumber}
 use Rattle.machine.specs.Step.{stepOf, outcomeOf, attempted, decided}
-use Rattle.machine.specs.Why.{wordAt}
+use Rattle.machine.specs.Why.{wordHere}
 use Rattle.demands.specs.AtCounter.{IsBranch, format, whole, IgnoresSwitch, scaled, general, elementBytes}
 use Rattle.demands.specs.AtCounter.{addressFrom, Accesses, at, SetsCsr, to, InTable, InWork, Arms}
 use Rattle.demands.specs.AtCounter.{StandsAt, ReadsAs, IsWord, Does}
@@ -320,13 +320,13 @@ module _ (p : List ℕ) (e : Env) (m : Machine) where
 
   -- the word that is fetched
   abbrev pub word : ℕ
-  word = wordAt (fetched p (e .bases .program) (m .ctl .pc))
+  word = wordHere (fetched p (e .bases .program) (m .ctl .pc))
 
   pub word-is : Some (StandsAt p e m) → IsWord p e m word
   unfolding fetched
   word-is s = go stands? stands
     where
-      go : (b : Bool) → Reflects b (Some (StandsAt p e m)) → IsWord p e m (wordAt (cond b (Word w) NoWord))
+      go : (b : Bool) → Reflects b (Some (StandsAt p e m)) → IsWord p e m (wordHere (cond b (Word w) NoWord))
       go true x = record { number = s .number; holds = (s .holds, sym (spelt s)) }
       go false x = absurd (x .no refl s)
 

@@ -1,5 +1,5 @@
--- The bits that arm a trap: the machine's sum of them has each bit that is shared, and no other; and one number has just
--- these. Assumes nothing.
+-- The bits that arm a trap: the machine's sum of them has each bit that is shared, and no other; and one number has
+-- just these. Assumes nothing.
 use mathlib.Core.Path.{_≡_, refl, sym, ap, _∙_}
 use mathlib.Core.Bool.{Bool, true, false, cond, _&&_}
 use Prim.Native.Nat.{ℕ, zero, suc, _+_, _-_, _*_, _/_, _%_, _^_, _≤_, _<_}
@@ -10,9 +10,9 @@ use Rattle.state.specs.Csr.{masked, bit, arming}
 use Rattle.state.specs.Csr as csr
 use Rattle.vectors.specs.Register.{element}
 use Rattle.vectors.proofs.ElementLaws.{same-elements}
-use Rattle.demands.specs.AtCounter.{Left, SharedBit, TrapBits, seventeen, shared}
+use Rattle.demands.specs.AtCounter.{Left, SharedBit, TrapBits, bit17, bits}
 use Rattle.demands.specs.Tables.{Bit}
-use Rattle.demands.proofs.CsrBits.{Pair, pair, left-reflects, low-bit}
+use Rattle.demands.proofs.CsrBits.{pair, shares, shared-pair, left-reflects, low-bit}
 use Rattle.demands.proofs.Reflects.{Reflects}
 
 -- ---- five bits at 16..12
@@ -78,20 +78,6 @@ module _ (x : ℕ) where
   sum-five = λ k. weighed (test 4) (2 ^ 16) k + weighed (test 3) (2 ^ 15) k + weighed (test 2) (2 ^ 14) k
       + weighed (test 1) (2 ^ 13) k + weighed (test 0) (2 ^ 12) k
 
-  -- position j of the five as bit 12 + j
-  shares : (k : ℕ) → 12 ≤ k → k < 17 → Pair x (k - 12) → SharedBit x k
-  shares k l h p =
-      let e : 12 + (k - 12) ≡ k = omega arith in
-      let f : 7 + (k - 12) ≡ k - 5 = omega arith in
-      (l, h, rw e at (p .0), rw f at (p .1))
-
-  shared-pair : (k : ℕ) → SharedBit x k → Pair x (k - 12)
-  shared-pair k s =
-      let l = s .0 in
-      let e : 12 + (k - 12) ≡ k = omega arith in
-      let f : 7 + (k - 12) ≡ k - 5 = omega arith in
-      (rw e (s .2), rw f (s .3))
-
   only : (k : ℕ) → k < 17 → Bit k (five ones small) → SharedBit x k
   only k h b = go (decLt k 12)
     where
@@ -101,7 +87,7 @@ module _ (x : ℕ) where
           let e : 12 + (k - 12) ≡ k = omega arith in
           let i : k - 12 < 5 = omega arith in
           let is : ones (k - 12) ≡ 1 = sym (five-at ones small (k - 12) i) ∙ rw e b in
-          shares k (omega arith) h (pair x (k - 12) i .yes (one-true (test (k - 12)) is))
+          shares x k (omega arith) h (pair x (k - 12) i .yes (one-true (test (k - 12)) is))
 
   every : (k : ℕ) → SharedBit x k → Bit k (five ones small)
   every k s =
@@ -109,15 +95,15 @@ module _ (x : ℕ) where
       let h = s .1 in
       let e : 12 + (k - 12) ≡ k = omega arith in
       let i : k - 12 < 5 = omega arith in
-      rw e at (five-at ones small (k - 12) i ∙ true-one (test (k - 12)) (pair x (k - 12) i) (shared-pair k s))
+      rw e at (five-at ones small (k - 12) i ∙ true-one (test (k - 12)) (pair x (k - 12) i) (shared-pair x k s))
 
   -- the bits of the machine's stop
   pub arming-is : TrapBits x (arming (masked x))
   arming-is = go (bit 17 (masked x)) (left-reflects x 17 (omega arith))
     where
       go : (b : Bool) → Reflects b (Left x 17) → TrapBits x (cond b (2 ^ 17) sum)
-      go true r = seventeen (r .yes refl) refl
-      go false r = rw sum-five (shared (r .no refl) (five-below ones small) only every)
+      go true r = bit17 (r .yes refl) refl
+      go false r = rw sum-five (bits (r .no refl) (five-below ones small) only every)
 
 -- ---- one number
 
@@ -135,12 +121,12 @@ unfolding element
 element-bit x k = ap (λ i. x / 2 ^ i % 2) (one-mul k)
 
 pub one-bits : (v x y : ℕ) → TrapBits v x → TrapBits v y → x ≡ y
-one-bits v x y (seventeen l e) (seventeen k f) = e ∙ sym f
-one-bits v x y (seventeen l e) (shared n h f g) = absurd (n l)
-one-bits v x y (shared n h f g) (seventeen l e) = absurd (n l)
-one-bits v x y (shared n h f g) (shared n′ h′ f′ g′) =
-    let bits : (k : ℕ) → k < 17 → x / 2 ^ k % 2 ≡ y / 2 ^ k % 2 =
+one-bits v x y (bit17 l e) (bit17 k f) = e ∙ sym f
+one-bits v x y (bit17 l e) (bits n h f g) = absurd (n l)
+one-bits v x y (bits n h f g) (bit17 l e) = absurd (n l)
+one-bits v x y (bits n h f g) (bits n′ h′ f′ g′) =
+    let same-bits : (k : ℕ) → k < 17 → x / 2 ^ k % 2 ≡ y / 2 ^ k % 2 =
     λ k l. same-bit x y k (λ b. g′ k (f k l b)) (λ b. g k (f′ k l b))
     in
-    let same = same-elements 1 x y 17 (λ k l. element-bit x k ∙ bits k l ∙ sym (element-bit y k)) in
+    let same = same-elements 1 x y 17 (λ k l. element-bit x k ∙ same-bits k l ∙ sym (element-bit y k)) in
     omega (arith, same)

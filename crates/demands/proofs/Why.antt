@@ -18,31 +18,34 @@ use Rattle.state.specs.Machine.{Env, Machine}
 use Rattle.state.specs.Numbers.{refusalNumber}
 use Rattle.state.specs.Setup.{refusal}
 use Rattle.machine.specs.declared.run.Reason.{Reason}
-use Rattle.machine.specs.declared.run.Reason.the-variants as reason
+use Rattle.machine.specs.declared.step.Answer.{Answer}
 use Rattle.machine.specs.declared.step.Answer.the-variants.{Ran}
 use Rattle.machine.specs.declared.step.Outcome.{Outcome}
 use Rattle.machine.specs.declared.step.Outcome.the-variants.{Finished, Stopped}
 use Rattle.machine.specs.declared.why.Cause.{Cause}
-use Rattle.machine.specs.Numbers.{outcomeNumber, outcomeMissing, answerNumber, answerMissing}
+use Rattle.machine.specs.Numbers.{outcomeNumber, outcomeMissing, outcomeCarried, answerNumber, answerMissing}
+use Rattle.machine.specs.Numbers.{answerCarried, reasonNumber, reasonCarried, reasonMissing}
 use Rattle.machine.specs.Run.{wholeRun}
 use Rattle.machine.specs.Step.{stepOf, whole, wholeStep}
 use Rattle.machine.specs.Why.{stopWord, stopFact, causeOf, nextOf, unlessRefused, whyOf}
 use Rattle.machine.proofs.RunLaws.{same-machine}
-use Rattle.machine.proofs.Said.{answer-is, reason-is, why-is}
-use Rattle.demands.specs.AtCounter.{Accesses, at, SetsCsr, to, TrapBits, StandsAt, ReadsAs, IsWord, Does}
+use Rattle.machine.proofs.Said.{answer-is, why-is}
+use Rattle.demands.specs.AtCounter.{IgnoresSwitch, Accesses, at, SetsCsr, to, TrapBits}
+use Rattle.demands.specs.AtCounter.{StandsAt, ReadsAs, IsWord, Does}
 use Rattle.demands.specs.Demand1.{Why, spent, stopped}
 use Rattle.demands.specs.Limits.{limits}
 use Rattle.demands.specs.Missing.{Missing}
 use Rattle.demands.specs.Reasons.{Behind, stops}
-use Rattle.demands.specs.Tables.{Row, Says, Some, little}
+use Rattle.demands.specs.Tables.{Row, Says, Not, Some, little}
 use Rattle.demands.specs.Why.{WhyOutcome, WhyAgrees, WhySays, OneReason, Goes, WhyGoes, WhyAfterRun}
 use Rattle.demands.proofs.Answers.{step-first, refusal-between, stop-between}
-use Rattle.demands.proofs.Carried.{carried, outcome-is, access-map, access-carries, set-map, set-carries}
+use Rattle.demands.proofs.Carried.{outcome-is, access-map, access-carries, set-map, set-carries}
 use Rattle.demands.proofs.Demand1.{accepted-run, refused-run}
 use Rattle.demands.proofs.Kept.{steps-accepted}
-use Rattle.demands.proofs.Missing.{accepted-carries, one-access}
+use Rattle.demands.proofs.Missing.{accepted-names, one-access}
 use Rattle.demands.proofs.Reasons.{word, word-is, both-do}
-use Rattle.demands.proofs.Rows.{Each, each-append, each-map, says, One, one-first, one-said, said-first}
+use Rattle.demands.proofs.Rows.{Each, all, _&_, each-append, each-map}
+use Rattle.demands.proofs.Rows.{says, One, one-first, one-said, said-first}
 use Rattle.demands.proofs.TrapBits.{arming-is, one-bits}
 
 -- no stop has the number of a refusal
@@ -64,6 +67,9 @@ module _ (p : List ℕ) (e : Env) (m : Machine) where
 
   stands-at : {r : Read} → ReadsAs p e m r → Some (StandsAt p e m)
   stands-at r = record { number = r .number; holds = r .holds .0 }
+
+  does-at : {f : Instr → Type 0} → Does p e m f → Some (StandsAt p e m)
+  does-at d = stands-at (d .reads)
 
   -- what stands behind 12 to 19, of the stop s
   behind : (f : ℕ → ℕ → Type 0) (s : Stop) → end ≡ Stopped s → stopWord (word p e m) s ≡ word p e m
@@ -88,54 +94,42 @@ module _ (p : List ℕ) (e : Env) (m : Machine) where
   by h = sym (h ∙ number-is)
 
   each-stop : refusal p e m ≡ Accepted → Each (IsBehind cause) (stops p e m)
-  each-stop ok = (
-    λ h n. rw (outcome-is end 11 (by h)) (refl, refl),
-    (
-      λ h a. own (stop.Unread Unassigned) (outcome-is end 12 (by h)) refl refl (stands-at a),
-      (
-        λ h a. own (stop.Unread LeftOut) (outcome-is end 13 (by h)) refl refl (stands-at a),
-        (
-          λ h a. own (stop.Unread Other) (outcome-is end 14 (by h)) refl refl (stands-at a),
-          (
-            λ h d. own stop.BranchInSlot (outcome-is end 15 (by h)) refl refl (stands-at (d .reads)),
-            (
-              λ h d. sixteen (by h) (stands-at (d .reads)) (d .holds .1),
-              (
-                λ h d. seventeen (by h) (stands-at (d .reads)),
-                (
-                  λ h d. eighteen (by h) d,
-                  (
-                    λ h d. nineteen (by h) d,
-                    tt,
-                  ),
-                ),
-              ),
-            ),
-          ),
-        ),
-      ),
-    ),
-  )
+  each-stop ok =
+      (λ h n. eleven (by h))
+      & (λ h a. own (stop.Unread Unassigned) (outcome-is end 12 (by h)) refl refl (stands-at a))
+      & (λ h a. own (stop.Unread LeftOut) (outcome-is end 13 (by h)) refl refl (stands-at a))
+      & (λ h a. own (stop.Unread Other) (outcome-is end 14 (by h)) refl refl (stands-at a))
+      & (λ h d. own stop.BranchInSlot (outcome-is end 15 (by h)) refl refl (does-at d))
+      & (λ h d. sixteen (by h) d)
+      & (λ h d. seventeen (by h) (does-at d))
+      & (λ h d. eighteen (by h) d)
+      & (λ h d. nineteen (by h) d)
+      & all
     where
-      sixteen : outcomeNumber end ≡ 16 → Some (StandsAt p e m) → m .ctl .on ≡ false
+      eleven : outcomeNumber end ≡ 11 → (cause .word ≡ 0) × (cause .fact ≡ m .ctl .pc)
+      eleven h = rw (outcome-is end 11 h) (refl, refl)
+
+      sixteen : outcomeNumber end ≡ 16 → Does p e m (λ i. Not (IgnoresSwitch i) × (m .ctl .on ≡ false))
           → Behind p e m (λ w x. x ≡ cond (m .ctl .on) 1 0) (cause .word) (cause .fact)
-      sixteen h here off =
-          behind (λ w x. x ≡ cond (m .ctl .on) 1 0) stop.SwitchedOff (outcome-is end 16 h) refl here
-          (rw off)
+      sixteen h d =
+          behind (λ w x. x ≡ cond (m .ctl .on) 1 0) stop.SwitchedOff (outcome-is end 16 h) refl (does-at d)
+          (rw (d .holds .1))
 
       seventeen : outcomeNumber end ≡ 17 → Some (StandsAt p e m)
           → Behind p e m (λ w x. Does p e m (Accesses m (λ o a. Missing e m a x))) (cause .word) (cause .fact)
       seventeen h here =
           let i = outcome-is end 17 h in
-          let is : outcomeMissing end ≡ carried end = ap outcomeMissing i in
-          behind (λ w x. Does p e m (Accesses m (λ o a. Missing e m a x))) (stop.NoWindow (carried end)) i refl here
-          (rw is at (accepted-carries p e m ok .missing h))
+          let is : outcomeMissing end ≡ outcomeCarried end = ap outcomeMissing i in
+          behind (λ w x. Does p e m (Accesses m (λ o a. Missing e m a x)))
+          (stop.NoWindow (outcomeCarried end)) i refl here
+          (rw is at (accepted-names p e m ok .missing h))
 
       eighteen : {f : Memory → ℕ → Type 0} → outcomeNumber end ≡ 18 → Does p e m (Accesses m f)
           → Behind p e m (λ w x. Does p e m (Accesses m (λ o a. x ≡ a))) (cause .word) (cause .fact)
       eighteen h d =
-          behind (λ w x. Does p e m (Accesses m (λ o a. x ≡ a))) (stop.ReadOnly (carried end)) (outcome-is end 18 h)
-          refl (stands-at (d .reads))
+          behind (λ w x. Does p e m (Accesses m (λ o a. x ≡ a)))
+          (stop.ReadOnly (outcomeCarried end)) (outcome-is end 18 h)
+          refl (does-at d)
           (record {
             instruction = d .instruction;
             reads = d .reads;
@@ -145,8 +139,9 @@ module _ (p : List ℕ) (e : Env) (m : Machine) where
       nineteen : {f : ℕ → Type 0} → outcomeNumber end ≡ 19 → Does p e m (SetsCsr m f)
           → Behind p e m (λ w x. Does p e m (SetsCsr m (λ v. TrapBits v x))) (cause .word) (cause .fact)
       nineteen h d =
-          behind (λ w x. Does p e m (SetsCsr m (λ v. TrapBits v x))) (stop.Trap (carried end)) (outcome-is end 19 h)
-          refl (stands-at (d .reads))
+          behind (λ w x. Does p e m (SetsCsr m (λ v. TrapBits v x)))
+          (stop.Trap (outcomeCarried end)) (outcome-is end 19 h)
+          refl (does-at d)
           (record {
             instruction = d .instruction;
             reads = d .reads;
@@ -167,53 +162,38 @@ module _ (p : List ℕ) (e : Env) (m : Machine) where
   -- the number of a refusal is that of no stop
   not-stop : (r : Refusal) (n : ℕ) → n ≡ refusalNumber r → (f : Row → Type 0)
       → Each (λ row. row .number ≡ n → f row) (stops p e m)
-  not-stop r n e f = (
-    past 11 (omega arith),
-    (
-      past 12 (omega arith),
-      (
-        past 13 (omega arith),
-        (
-          past 14 (omega arith),
-          (
-            past 15 (omega arith),
-            (
-              past 16 (omega arith),
-              (past 17 (omega arith), (past 18 (omega arith), (past 19 (omega arith), tt))),
-            ),
-          ),
-        ),
-      ),
-    ),
-  )
+  not-stop r n e f =
+      past 11 (omega arith)
+      & past 12 (omega arith)
+      & past 13 (omega arith)
+      & past 14 (omega arith)
+      & past 15 (omega arith)
+      & past 16 (omega arith)
+      & past 17 (omega arith)
+      & past 18 (omega arith)
+      & past 19 (omega arith)
+      & all
     where
       past : (k : ℕ) → 10 < k → {A : Type 0} → k ≡ n → A
       past k l h = absurd (omega (arith, refusal-between r .1))
 
   each-row : (q : Setup) → refusal p e m ≡ q → Each (IsBehind (told q)) (limits p e m ++ stops p e m)
   unfolding nextOf
-  each-row Accepted ok = each-append (IsBehind cause) (limits p e m) (stops p e m) limit (each-stop ok)
+  each-row Accepted ok = each-append limit (each-stop ok)
     where
       none : {A : Type 0} (k : ℕ) → 0 < k → k < 11 → k ≡ answerNumber (cause .answer) → A
       none k l u h = absurd (not-refusal end k l u (h ∙ number-is))
 
       limit : Each (IsBehind cause) (limits p e m)
-      limit = (
-        λ h a. none 1 (omega arith) (omega arith) h,
-        (
-          λ h a. none 2 (omega arith) (omega arith) h,
-          (
-            λ h a. none 3 (omega arith) (omega arith) h,
-            (
-              λ h a. none 4 (omega arith) (omega arith) h,
-              (λ h a. none 5 (omega arith) (omega arith) h, tt),
-            ),
-          ),
-        ),
-      )
+      limit =
+          (λ h a. none 1 (omega arith) (omega arith) h)
+          & (λ h a. none 2 (omega arith) (omega arith) h)
+          & (λ h a. none 3 (omega arith) (omega arith) h)
+          & (λ h a. none 4 (omega arith) (omega arith) h)
+          & (λ h a. none 5 (omega arith) (omega arith) h)
+          & all
   each-row (Refused r) ok =
-      each-append (IsBehind (told (Refused r))) (limits p e m) (stops p e m)
-      (λ h a. zeros, (λ h a. zeros, (λ h a. zeros, (λ h a. zeros, (λ h a. zeros, tt)))))
+      each-append ((λ h a. zeros) & (λ h a. zeros) & (λ h a. zeros) & (λ h a. zeros) & (λ h a. zeros) & all)
       (not-stop r (refusalNumber r) refl (λ row. row .applies → row .behind 0 0))
     where
       zeros : (_≡_ {A = ℕ} 0 0) × (_≡_ {A = ℕ} 0 0)
@@ -280,46 +260,27 @@ module _ (p : List ℕ) (e : Env) (m : Machine) where
 
   each-one : refusal p e m ≡ Accepted → Each One (limits p e m ++ stops p e m)
   each-one ok =
-      each-append One (limits p e m) (stops p e m) (equal, (equal, (equal, (equal, (equal, tt))))) (
-        equal,
-        (
-          own-one,
-          (
-            own-one,
-            (
-              own-one,
-              (
-                own-one,
-                (
-                  one-behind (λ w x. x ≡ cond (m .ctl .on) 1 0) (λ w v x y h a b. a ∙ sym b),
-                  (
-                    one-behind (λ w x. Does p e m (Accesses m (λ o a. Missing e m a x)))
-                        (λ w v x y h. both-do p e m (λ i. one-access p e m ok i x y)),
-                    (
-                      one-behind (λ w x. Does p e m (Accesses m (λ o a. x ≡ a)))
-                          (λ w v x y h. both-do p e m (λ i. one-store i x y)),
-                      (
-                        one-behind (λ w x. Does p e m (SetsCsr m (λ v. TrapBits v x)))
-                            (λ w v x y h. both-do p e m (λ i. one-set i x y)),
-                        tt,
-                      ),
-                    ),
-                  ),
-                ),
-              ),
-            ),
-          ),
-        ),
-      )
+      each-append (equal & equal & equal & equal & equal & all)
+      (equal
+      & own-one
+      & own-one
+      & own-one
+      & own-one
+      & one-behind (λ w x. x ≡ cond (m .ctl .on) 1 0) (λ w v x y h a b. a ∙ sym b)
+      & one-behind (λ w x. Does p e m (Accesses m (λ o a. Missing e m a x)))
+      (λ w v x y h. both-do p e m (λ i. one-access p e m ok i x y))
+      & one-behind (λ w x. Does p e m (Accesses m (λ o a. x ≡ a))) (λ w v x y h. both-do p e m (λ i. one-store i x y))
+      & one-behind (λ w x. Does p e m (SetsCsr m (λ v. TrapBits v x)))
+      (λ w v x y h. both-do p e m (λ i. one-set i x y))
+      & all)
 
   -- of a refused set-up the first row is a limit, and nothing stands behind it
   each-given : (q : Setup) → refusal p e m ≡ q → (n : ℕ) → n ≡ answerNumber (whole q (stepOf p e m) m .answer)
       → Each (λ r. r .number ≡ n → One r) (limits p e m ++ stops p e m)
-  each-given Accepted ok n h =
-      each-map One (λ r. r .number ≡ n → One r) (λ r one h. one) (limits p e m ++ stops p e m) (each-one ok)
+  each-given Accepted ok n h = each-map (λ r one h. one) (each-one ok)
   each-given (Refused r) ok n h =
-      each-append (λ r. r .number ≡ n → One r) (limits p e m) (stops p e m)
-      (λ k. equal, (λ k. equal, (λ k. equal, (λ k. equal, (λ k. equal, tt))))) (not-stop p e m r n h One)
+      each-append ((λ k. equal) & (λ k. equal) & (λ k. equal) & (λ k. equal) & (λ k. equal) & all)
+      (not-stop p e m r n h One)
 
 pub one-reason : OneReason
 one-reason p e m n k w v x y s t =
@@ -348,28 +309,39 @@ why-goes p e m y i =
 
 -- ---- after a run
 
--- where a stopped run ended the next step stops so
-pub ends-stopped : (p : List ℕ) (e : Env) (budget : ℕ) (m : Machine) (s : Stop)
-    → wholeRun p e budget m .reason ≡ reason.Stopped s
-    → wholeStep p e (wholeRun p e budget m .after) .answer ≡ Ran (Stopped s)
-ends-stopped p e budget m s = go (refusal p e m) refl
+-- what a run that did not spend its budget has in common with a step's answer
+pub record Likewise (r : Reason) (a : Answer) : Type 0 where
+  pub number : answerNumber a ≡ reasonNumber r
+  pub carried : answerCarried a ≡ reasonCarried r
+  pub missing : answerMissing a ≡ reasonMissing r
+
+-- where such a run ended the next step ends so
+pub ends-likewise : (p : List ℕ) (e : Env) (budget : ℕ) (m : Machine)
+    → Not (reasonNumber (wholeRun p e budget m .reason) ≡ 20)
+    → Likewise (wholeRun p e budget m .reason) (wholeStep p e (wholeRun p e budget m .after) .answer)
+ends-likewise p e budget m = go (refusal p e m) refl
   where
     by-why : (count : ℕ) (n : Machine) (r : Reason) → refusal p e n ≡ Accepted → Why p e budget count n r
-        → r ≡ reason.Stopped s → wholeStep p e n .answer ≡ Ran (Stopped s)
-    by-why count n r ok (spent l) h = let z : _≡_ {A = ℕ} 0 1 = cc in absurd (omega arith)
-    by-why count n r ok (stopped t l stop) h = let same : t ≡ s = cc in rw (ok, stop, same)
+        → Not (reasonNumber r ≡ 20) → Likewise r (wholeStep p e n .answer)
+    by-why count n r ok (spent l) h = absurd (h refl)
+    by-why count n r ok (stopped s l stop) h = rw (ok, stop) (record { number = refl; carried = refl; missing = refl })
 
-    go : (q : Setup) → refusal p e m ≡ q → wholeRun p e budget m .reason ≡ reason.Stopped s
-        → wholeStep p e (wholeRun p e budget m .after) .answer ≡ Ran (Stopped s)
+    go : (q : Setup) → refusal p e m ≡ q → Not (reasonNumber (wholeRun p e budget m .reason) ≡ 20)
+        → Likewise (wholeRun p e budget m .reason) (wholeStep p e (wholeRun p e budget m .after) .answer)
     go Accepted ok h =
         let ends = accepted-run p e budget m ok in
         by-why _ _ _ (steps-accepted p e _ m _ (ends .steps) ok) (ends .why) h
     go (Refused r) refuses h =
-        let z : _≡_ {A = ℕ} 0 1 = cc (refused-run p e budget m r refuses) in absurd (omega arith)
+        rw (refused-run p e budget m r refuses, refuses) (record { number = refl; carried = refl; missing = refl })
 
 pub why-after-run : WhyAfterRun
-why-after-run p e budget m r v g w y i j s h =
+why-after-run p e budget m r v g w y i j h =
     let run = wholeRun p e budget m in
     let left = same-machine (run .after) v g w (r .control) (i .vec) (i .gen) (i .work) (i .control) in
-    ap (λ x. x .answer) (why-is j) ∙ same-answer p e _ (refusal p e _) ∙ ap (λ n. wholeStep p e n .answer) (sym left)
-    ∙ ends-stopped p e budget m s (sym (reason-is i) ∙ h)
+    let answer = ap (λ x. x .answer) (why-is j) ∙ same-answer p e _ (refusal p e _)
+    ∙ ap (λ n. wholeStep p e n .answer) (sym left)
+    in
+    let alike = ends-likewise p e budget m (λ k. h (i .reason ∙ k)) in (
+      ap answerNumber answer ∙ alike .number ∙ sym (i .reason),
+      ap answerCarried answer ∙ alike .carried ∙ sym (i .carried),
+    )

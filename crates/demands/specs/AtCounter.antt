@@ -1,5 +1,6 @@
 -- The words in which the rows of the stops are put: what stands at the program counter, what it reads as, which address
--- a load or store asks for, and which value a CTCMSA.
+-- a load or store asks for and whether a window holds it, which value a CTCMSA has and which of its bits arm a trap.
+-- Nothing here is the machine's own (`Tables`).
 use mathlib.Core.Path.{_≡_}
 use mathlib.Core.Bool.{cond}
 use mathlib.Core.Logic.{_⊎_}
@@ -74,18 +75,18 @@ InWork e m a = AllInside (e .bases .work) (length (m .work)) a
 abbrev pub Left : ℕ → ℕ → Type 0
 Left x k = Bit k x × Bit k csrBits
 
--- the value x arms a float trap: bit 17, or a position that bits 16..12 and 11..7 share
-abbrev pub Arms : ℕ → Type 0
-Arms x = Left x 17 ⊎ Some (λ k. (k < 5) × Left x (12 + k) × Left x (7 + k))
-
 -- bit k is one of 16..12 that 11..7 share
 abbrev pub SharedBit : ℕ → ℕ → Type 0
 SharedBit v k = (12 ≤ k) × (k < 17) × Left v k × Left v (k - 5)
 
+-- the value x arms a float trap: bit 17, or a position that bits 16..12 and 11..7 share
+abbrev pub Arms : ℕ → Type 0
+Arms x = Left x 17 ⊎ Some (SharedBit x)
+
 -- the bits x of the value v that arm a trap: bit 17 where it is set, else the shared bits of 16..12, at their places
 pub data TrapBits (v x : ℕ) : Type 0 where
-  seventeen : Left v 17 → x ≡ 0x20000 → TrapBits v x
-  shared : Not (Left v 17) → x < 2 ^ 17 → ((k : ℕ) → k < 17 → Bit k x → SharedBit v k)
+  bit17 : Left v 17 → x ≡ 0x20000 → TrapBits v x
+  bits : Not (Left v 17) → x < 2 ^ 17 → ((k : ℕ) → k < 17 → Bit k x → SharedBit v k)
       → ((k : ℕ) → SharedBit v k → Bit k x)
       → TrapBits v x
 

@@ -1,6 +1,6 @@
--- Request 3/12: which byte was missing. With 17 a step or a run carries the first of the sixteen addresses of the load
+-- Request 3/12: which byte was missing. With 17 a step or a run names the first of the sixteen addresses of the load
 -- or store, counted upward modulo 2^64, that does not lie in the window holding the first byte, or the first address
--- itself if no window holds it. With every other number it carries 0.
+-- itself if no window holds it. With every other number it names 0.
 use mathlib.Core.Path.{_≡_}
 use mathlib.Core.List.{List}
 use Prim.Native.Nat.{ℕ, _+_, _%_, _^_, _<_}
@@ -36,8 +36,8 @@ pub data Missing (e : Env) (m : Machine) (a x : ℕ) : Type 0 where
   work : WorkHolds e m a → FirstOutside 16 (e .bases .work) (length (m .work)) a x → Missing e m a x
   nowhere : Not (TableHolds e a) → Not (WorkHolds e m a) → x ≡ a → Missing e m a x
 
--- what the number n carries where the machine m stopped
-pub record Carries (p : List ℕ) (e : Env) (m : Machine) (n x : ℕ) : Type 0 where
+-- what the number n names where the machine m stopped
+pub record Names (p : List ℕ) (e : Env) (m : Machine) (n x : ℕ) : Type 0 where
   pub missing : n ≡ 17 → Does p e m (Accesses m (λ o a. Missing e m a x))
   pub none : Not (n ≡ 17) → x ≡ 0
 
@@ -45,17 +45,17 @@ pub record Carries (p : List ℕ) (e : Env) (m : Machine) (n x : ℕ) : Type 0 w
 abbrev pub OneMissing : Type 0
 OneMissing =
     (p : List ℕ) (e : Env) (m : Machine) → refusal p e m ≡ Accepted
-    → (n x y : ℕ) → Carries p e m n x → Carries p e m n y → x ≡ y
+    → (n x y : ℕ) → Names p e m n x → Names p e m n y → x ≡ y
 
 -- `step::step`
 abbrev pub StepMissing : Type 0
 StepMissing =
     (p : List ℕ) (e : Env) (m : Machine) (r : Answered) (v g w : List ℕ) → WholeIs (wholeStep p e m) r v g w
-    → Carries p e m (answerNumber (r .answer)) (answerMissing (r .answer))
+    → Names p e m (answerNumber (r .answer)) (answerMissing (r .answer))
 
 -- `run::run`: of the machine that it leaves
 abbrev pub RunMissing : Type 0
 RunMissing =
     (p : List ℕ) (e : Env) (budget : ℕ) (m : Machine) (r : Ended) (v g w : List ℕ)
     → RunIs (wholeRun p e budget m) r v g w
-    → Carries p e (machine v g w (r .control)) (reasonNumber (r .reason)) (reasonMissing (r .reason))
+    → Names p e (machine v g w (r .control)) (reasonNumber (r .reason)) (reasonMissing (r .reason))

@@ -22,7 +22,7 @@ use Rattle.demands.specs.AtCounter.{IsBranch, IgnoresSwitch, Accesses, S
 use Rattle.demands.specs.AtCounter.{StandsAt, ReadsAs, IsWord, Does}
 use Rattle.demands.specs.Limits.{limits}
 use Rattle.demands.specs.Missing.{Missing}
-use Rattle.demands.specs.Tables.{Row, row, told, First, Not, Some}
+use Rattle.demands.specs.Tables.{Row, row, rowWith, First, Not, Some}
 
 -- ---- the table
 
@@ -34,22 +34,22 @@ Behind p e m f w x = IsWord p e m w × f w x
 -- that of the store's first byte; of 19 the bits that arm the trap
 abbrev pub readStops : List ℕ → Env → Machine → List Row
 readStops p e m =
-    told 12 (ReadsAs p e m (read.Not Unassigned)) (Behind p e m (λ w x. x ≡ w))
-    ∷ told 13 (ReadsAs p e m (read.Not LeftOut)) (Behind p e m (λ w x. x ≡ w))
-    ∷ told 14 (ReadsAs p e m (read.Not Other)) (Behind p e m (λ w x. x ≡ w))
-    ∷ told 15 (Does p e m (λ i. IsBranch i × Not (m .ctl .mark ≡ Clear))) (Behind p e m (λ w x. x ≡ w))
-    ∷ told 16 (Does p e m (λ i. Not (IgnoresSwitch i) × (m .ctl .on ≡ false)))
+    rowWith 12 (ReadsAs p e m (read.Not Unassigned)) (Behind p e m (λ w x. x ≡ w))
+    ∷ rowWith 13 (ReadsAs p e m (read.Not LeftOut)) (Behind p e m (λ w x. x ≡ w))
+    ∷ rowWith 14 (ReadsAs p e m (read.Not Other)) (Behind p e m (λ w x. x ≡ w))
+    ∷ rowWith 15 (Does p e m (λ i. IsBranch i × Not (m .ctl .mark ≡ Clear))) (Behind p e m (λ w x. x ≡ w))
+    ∷ rowWith 16 (Does p e m (λ i. Not (IgnoresSwitch i) × (m .ctl .on ≡ false)))
     (Behind p e m (λ w x. x ≡ cond (m .ctl .on) 1 0))
-    ∷ told 17 (Does p e m (Accesses m (λ o a. Not (InTable e a) × Not (InWork e m a))))
+    ∷ rowWith 17 (Does p e m (Accesses m (λ o a. Not (InTable e a) × Not (InWork e m a))))
     (Behind p e m (λ w x. Does p e m (Accesses m (λ o a. Missing e m a x))))
-    ∷ told 18 (Does p e m (Accesses m (λ o a. (o ≡ St) × InTable e a)))
+    ∷ rowWith 18 (Does p e m (Accesses m (λ o a. (o ≡ St) × InTable e a)))
     (Behind p e m (λ w x. Does p e m (Accesses m (λ o a. x ≡ a))))
-    ∷ told 19 (Does p e m (SetsCsr m Arms)) (Behind p e m (λ w x. Does p e m (SetsCsr m (λ v. TrapBits v x))))
+    ∷ rowWith 19 (Does p e m (SetsCsr m Arms)) (Behind p e m (λ w x. Does p e m (SetsCsr m (λ v. TrapBits v x))))
     ∷ []
 
 -- the whole table; behind 11 there is no word, and the fact is the counter
 abbrev pub stops : List ℕ → Env → Machine → List Row
-stops p e m = told 11 (Not (Some (StandsAt p e m))) (λ w x. (w ≡ 0) × (x ≡ m .ctl .pc)) ∷ readStops p e m
+stops p e m = rowWith 11 (Not (Some (StandsAt p e m))) (λ w x. (w ≡ 0) × (x ≡ m .ctl .pc)) ∷ readStops p e m
 
 abbrev pub FirstReason : Type 1
 FirstReason =

@@ -12,12 +12,12 @@ pub record Row : Type 1 where
   pub applies : Type 0
   pub behind : ℕ → ℕ → Type 0
 
-abbrev pub told : ℕ → Type 0 → (ℕ → ℕ → Type 0) → Row
-told n a b = record { number = n; applies = a; behind = b }
+abbrev pub rowWith : ℕ → Type 0 → (ℕ → ℕ → Type 0) → Row
+rowWith n a b = record { number = n; applies = a; behind = b }
 
 -- nothing stands behind it: word and fact are 0
 abbrev pub row : ℕ → Type 0 → Row
-row n a = told n a (λ w x. (w ≡ 0) × (x ≡ 0))
+row n a = rowWith n a (λ w x. (w ≡ 0) × (x ≡ 0))
 
 -- what is not so
 abbrev pub Not : Type 0 → Type 0

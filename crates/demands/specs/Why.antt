@@ -6,22 +6,20 @@ use mathlib.Core.Path.{_≡_}
 use mathlib.Core.List.{List, _++_}
 use Prim.Native.Nat.{ℕ}
 use Rattle.state.specs.declared.setup.Setup.the-variants.{Accepted}
-use Rattle.state.specs.declared.stops.Stop.{Stop}
 use Rattle.state.specs.Machine.{Env, Machine, machine}
 use Rattle.state.specs.Setup.{refusal}
 use Rattle.machine.specs.declared.run.Ended.{Ended}
-use Rattle.machine.specs.declared.run.Reason.the-variants.{Stopped}
 use Rattle.machine.specs.declared.step.Answer.the-variants.{Ran}
 use Rattle.machine.specs.declared.step.Answered.{Answered}
 use Rattle.machine.specs.declared.step.Outcome.the-variants as outcome
 use Rattle.machine.specs.declared.why.Cause.{Cause}
-use Rattle.machine.specs.Numbers.{answerNumber}
+use Rattle.machine.specs.Numbers.{answerNumber, reasonNumber, answerCarried, reasonCarried}
 use Rattle.machine.specs.Run.{RunIs, wholeRun}
 use Rattle.machine.specs.Step.{WholeIs, stepOf, wholeStep}
 use Rattle.machine.specs.Why.{WhyIs, whyOf}
 use Rattle.demands.specs.Limits.{limits}
 use Rattle.demands.specs.Reasons.{stops}
-use Rattle.demands.specs.Tables.{Says}
+use Rattle.demands.specs.Tables.{Says, Not}
 
 -- of an accepted set-up it answers the step's outcome, so that it names a number where and only where the step stops so
 abbrev pub WhyOutcome : Type 0
@@ -59,10 +57,11 @@ WhyGoes =
     (p : List ℕ) (e : Env) (m : Machine) (y : Cause) → WhyIs (whyOf p e m) y
     → (answerNumber (y .answer) ≡ 0 → Goes p e m) × (Goes p e m → answerNumber (y .answer) ≡ 0)
 
--- asked of the memory that a stopped run has left, it names the stop of the run
+-- asked of the memory that a run has left which did not spend its budget, it names the run's refusal or stop
 abbrev pub WhyAfterRun : Type 0
 WhyAfterRun =
     (p : List ℕ) (e : Env) (budget : ℕ) (m : Machine) (r : Ended) (v g w : List ℕ) (y : Cause)
     → RunIs (wholeRun p e budget m) r v g w
     → WhyIs (whyOf p e (machine v g w (r .control))) y
-    → (s : Stop) → r .reason ≡ Stopped s → y .answer ≡ Ran (outcome.Stopped s)
+    → Not (reasonNumber (r .reason) ≡ 20)
+    → (answerNumber (y .answer) ≡ reasonNumber (r .reason)) × (answerCarried (y .answer) ≡ reasonCarried (r .reason))

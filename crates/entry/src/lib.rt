@@ -1,6 +1,5 @@
 // The C entry: one step, one run, or why the next step would stop, on numbers and byte slices. The slices go on to the
-// machine as they are lent, so that no register and no program word is copied; only the control block is read from its
-// bytes and, by a step or a run, written back.
+// machine as they are lent; only the control block is read from its bytes and, by a step or a run, written back.
 mod block;
 mod numbers;
 
@@ -31,7 +30,7 @@ pub struct MsaEnded {
 }
 
 // What C gets of the call that says why the next step would stop: the number that `msa_step` would answer; what kind of
-// fact stands behind a stop, 0 where there is none; the word at the program counter; and the fact.
+// fact stands behind a stop; the word and the fact. Kind, word and fact are 0 where there is none.
 #[repr(C)]
 pub struct MsaWhy {
     pub number: u16,

@@ -2,7 +2,7 @@
 -- nothing.
 use mathlib.Core.Path.{_≡_, refl, ap, _∙_}
 use mathlib.Core.List.{List}
-use Prim.Native.Nat.{ℕ, _<_}
+use Prim.Native.Nat.{ℕ}
 use native.Mathlib.Omega.{arith}
 use Rattle.isa.specs.declared.Unread.{Unread}
 use Rattle.isa.specs.declared.Unread.the-variants.{Unassigned, LeftOut, Other}
@@ -10,19 +10,17 @@ use Rattle.state.specs.declared.stops.Stop.the-variants as stop
 use Rattle.state.specs.Machine.{Env}
 use Rattle.state.specs.Numbers.{refusalNumber}
 use Rattle.state.specs.Setup.{refusal}
-use Rattle.machine.specs.declared.run.Reason.{Reason}
-use Rattle.machine.specs.declared.run.Reason.the-variants as reason
 use Rattle.machine.specs.declared.step.Answer.{Answer}
 use Rattle.machine.specs.declared.step.Answer.the-variants.{Refused, Ran}
 use Rattle.machine.specs.declared.step.Outcome.the-variants.{Finished, Stopped}
-use Rattle.machine.specs.Numbers.{answerNumber, answerMissing, reasonNumber}
+use Rattle.machine.specs.Numbers.{answerNumber, answerMissing}
 use Rattle.machine.specs.Run.{wholeRun}
 use Rattle.machine.specs.Step.{wholeStep}
 use Rattle.machine.specs.Why.{whyOf}
 use Rattle.entry.specs.declared.MsaWhy.{MsaWhy}
 use Rattle.entry.specs.Why.{answerKind}
 use Rattle.demands.proofs.Answers.{refusal-between}
-use Rattle.demands.proofs.Why.{same-answer, whole-says, fact-missing, ends-stopped}
+use Rattle.demands.proofs.Why.{same-answer, whole-says, fact-missing, ends-likewise}
 use Rattle.entry_demands.specs.Calls.{Lent, machineOf}
 use Rattle.entry_demands.specs.Why.{WhyCall, KindIs, nothing, counter, word, switch, address, bits}
 use Rattle.entry_demands.specs.Why.{WhyCalled, Agrees, WhyOfStep, WhyOfRun}
@@ -65,18 +63,10 @@ pub why-of-step : WhyOfStep
 why-of-step p e x y r u i j =
     rw (i .reason, i .missing) (agrees p e x u (wholeStep p e (machineOf x) .answer) j refl)
 
--- a run whose number is that of a stop has stopped
 pub why-of-run : WhyOfRun
-why-of-run p e budget x y r u bytes i l h j =
-    go (wholeRun p e budget (machineOf x) .reason) refl (rw (i .reason) at l) (rw (i .reason) at h)
-  where
-    go : (s : Reason) → wholeRun p e budget (machineOf x) .reason ≡ s
-        → 10 < reasonNumber (wholeRun p e budget (machineOf x) .reason)
-        → reasonNumber (wholeRun p e budget (machineOf x) .reason) < 20
-        → Agrees u (r .reason) (r .missing)
-    go (reason.Refused s) k l h = absurd (omega (arith, refusal-between s .1, ap reasonNumber k))
-    go (reason.Stopped s) k l h =
-        let left = left-machine p e budget x bytes r y i in
-        let stops = ap (λ m. wholeStep p e m .answer) left ∙ ends-stopped p e budget (machineOf x) s k in
-        rw (i .reason, i .missing, k) (agrees p e y u (Ran (Stopped s)) j stops)
-    go reason.Spent k l h = absurd (omega (arith, ap reasonNumber k))
+why-of-run p e budget x y r u bytes i h j =
+    let m = machineOf x in
+    let alike = ends-likewise p e budget m (λ k. h (i .reason ∙ k)) in
+    let left = ap (λ n. wholeStep p e n .answer) (left-machine p e budget x bytes r y i) in
+    rw (i .reason, i .missing, ← alike .number, ← alike .missing)
+    (agrees p e y u (wholeStep p e (wholeRun p e budget m .after) .answer) j left)

@@ -8,7 +8,7 @@ use Rattle.state.specs.Machine.{Env}
 use Rattle.entry.specs.declared.MsaStepped.{MsaStepped}
 use Rattle.entry.specs.declared.MsaEnded.{MsaEnded}
 use Rattle.demands.specs.Limits.{limits}
-use Rattle.demands.specs.Missing.{Carries}
+use Rattle.demands.specs.Missing.{Names}
 use Rattle.demands.specs.Reasons.{stops, Answers}
 use Rattle.demands.specs.Tables.{First}
 use Rattle.entry_demands.specs.Calls.{Lent, machineOf, StepCall, Call}
@@ -26,9 +26,9 @@ RunCalled =
 abbrev pub StepMissingCalled : Type 0
 StepMissingCalled =
     (p : List ℕ) (e : Env) (x y : Lent) (r : MsaStepped) → StepCall p e x r y
-    → Carries p e (machineOf x) (r .reason) (r .missing)
+    → Names p e (machineOf x) (r .reason) (r .missing)
 
 abbrev pub RunMissingCalled : Type 0
 RunMissingCalled =
     (p : List ℕ) (e : Env) (budget : ℕ) (x y : Lent) (r : MsaEnded) → AreBytes (x .control) → Call p e budget x r y
-    → Carries p e (machineOf y) (r .reason) (r .missing)
+    → Names p e (machineOf y) (r .reason) (r .missing)

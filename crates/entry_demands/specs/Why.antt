@@ -1,6 +1,6 @@
 -- What `msa_why` answers (request 6/12): the first row that applies of document 01's two tables, with the word and the
 -- fact behind it, and of which kind the fact is; the number that `msa_step` answers on the same bytes, and with 17 its
--- missing address; and after a run that stopped, the run's.
+-- missing address; and after a run that did not spend its budget, the run's.
 use mathlib.Core.Path.{_≡_}
 use mathlib.Core.List.{List, _++_}
 use Prim.Native.Nat.{ℕ, _<_}
@@ -13,7 +13,7 @@ use Rattle.entry.specs.declared.MsaWhy.{MsaWhy}
 use Rattle.entry.specs.Why.{explained}
 use Rattle.demands.specs.Limits.{limits}
 use Rattle.demands.specs.Reasons.{stops}
-use Rattle.demands.specs.Tables.{Says}
+use Rattle.demands.specs.Tables.{Says, Not}
 use Rattle.entry_demands.specs.Calls.{Lent, machineOf, StepCall, Call}
 
 -- a call of `msa_why` on the lent bytes x that answers u; it is lent them for reading
@@ -49,9 +49,9 @@ WhyOfStep =
     (p : List ℕ) (e : Env) (x y : Lent) (r : MsaStepped) (u : MsaWhy) → StepCall p e x r y → WhyCall p e x u
     → Agrees u (r .reason) (r .missing)
 
--- on the bytes that a run with a stop has left
+-- on the bytes that a run has left which did not spend its budget
 abbrev pub WhyOfRun : Type 0
 WhyOfRun =
     (p : List ℕ) (e : Env) (budget : ℕ) (x y : Lent) (r : MsaEnded) (u : MsaWhy) → AreBytes (x .control)
-    → Call p e budget x r y → 10 < r .reason → r .reason < 20 → WhyCall p e y u
+    → Call p e budget x r y → Not (r .reason ≡ 20) → WhyCall p e y u
     → Agrees u (r .reason) (r .missing)

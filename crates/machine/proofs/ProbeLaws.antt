@@ -2,7 +2,7 @@
 -- windows are empty a load or a store stops with 17 and names its first address.
 -- Assumes nothing.
 use mathlib.Core.Path.{_≡_, refl, _∙_}
-use mathlib.Core.Bool.{Bool, true, false, cond}
+use mathlib.Core.Bool.{Bool, true, false}
 use mathlib.Core.List.{List, []}
 use Prim.Native.Nat.{ℕ, _-_, _≤_}
 use native.Mathlib.Decide.{decLe}
@@ -19,18 +19,17 @@ use Rattle.isa.specs.declared.Read.the-variants as read
 use Rattle.isa.specs.declared.Vreg.{Vreg}
 use Rattle.ops.specs.Meaning.{memoryAt}
 use Rattle.plan.specs.declared.Plan.{Plan}
-use Rattle.plan.specs.declared.Plan.the-variants as plan
 use Rattle.plan.specs.declared.planned.Kind.{Kind}
 use Rattle.plan.specs.declared.planned.Kind.the-variants.{Branching, Switched, Free}
 use Rattle.plan.specs.Numbers.{address}
 use Rattle.plan.specs.Plan.{planOf, executed, early, unless, kindOf, accessed, loaded, stored, generalAt}
+use Rattle.plan.proofs.PlanLaws.{control-cases}
 use Rattle.reading.specs.Reading.{readOf}
 use Rattle.state.specs.declared.control.Control.{Control}
 use Rattle.state.specs.declared.control.Mark.{Mark}
 use Rattle.state.specs.declared.control.Mark.the-variants.{Clear, NotTaken, Taken}
 use Rattle.state.specs.declared.fetch.Fetched.{Fetched}
 use Rattle.state.specs.declared.fetch.Fetched.the-variants as fetch
-use Rattle.state.specs.declared.stops.Stop.the-variants.{Trap}
 use Rattle.state.specs.declared.windows.Bases.{Bases}
 use Rattle.state.specs.declared.windows.Found.{Found}
 use Rattle.state.specs.declared.windows.Found.the-variants.{At, Nowhere}
@@ -108,12 +107,6 @@ module _ (b : Bases) (t v g w : List ℕ) (c : Control) where
   accessed-settles St wd a =
       rw (spot-empty b a) (store-settles a _ _ _ _ (placed (b .table) (length t) a) _ _)
 
-  control-settles : (one? trap? : Bool) (bits x : ℕ)
-      → let q : Plan = cond one? (cond trap? (plan.Stop (Trap bits)) (plan.Csr x)) plan.Nothing in Settles q q q
-  control-settles true true bits x = refl
-  control-settles true false bits x = refl
-  control-settles false trap? bits x = refl
-
   executed-settles : (i : Instr) → Settles (executed here whole i) (executed here tried i) (executed bare tried i)
   executed-settles (instr.Three o df wd ws wt) = refl
   executed-settles (instr.Indexed o df wd ws rt) = refl
@@ -130,7 +123,8 @@ module _ (b : Bases) (t v g w : List ℕ) (c : Control) where
   executed-settles (instr.Move wd ws) = refl
   executed-settles (instr.Cfcmsa rd cs) = refl
   executed-settles (instr.Ctcmsa cd rs) =
-      let x = masked (generalAt g rs) in control-settles (eqb (cd .0) 1) (arms x) (arming x) x
+      let x = masked (generalAt g rs) in
+      control-cases (λ q. Settles q q q) (arming x) x refl refl refl (eqb (cd .0) 1) (arms x)
   executed-settles (instr.Vec o wd ws wt) = refl
   executed-settles (instr.Fill df wd rs) = refl
   executed-settles (instr.Count o df wd ws) = refl

@@ -4,8 +4,8 @@ use Rattle.machine.specs.declared.why.Cause.{Cause}
 use Rattle.machine.specs.Numbers.{answerNumber, answerCarried}
 use Rattle.machine.specs.Why.{WhyIs}
 
-pub says : {s r : Cause} → r ≡ s → WhyIs s r
-says e =
+pub meets : {s r : Cause} → r ≡ s → WhyIs s r
+meets e =
     record {
       answer = ap (λ x. answerNumber (x .answer)) e;
       carried = ap (λ x. answerCarried (x .answer)) e;

@@ -37,6 +37,9 @@ reasonNumber (reason.Stopped s) = stopNumber s
 reasonNumber reason.Spent = 20
 
 -- what the stop carries
+abbrev pub outcomeCarried : Outcome → ℕ
+outcomeCarried o = ofOutcome stopCarried o
+
 abbrev pub answerCarried : Answer → ℕ
 answerCarried a = ofAnswer stopCarried a
 

@@ -20,9 +20,9 @@ use Rattle.machine.specs.Numbers.{answerNumber, answerCarried}
 use Rattle.machine.specs.Step.{stepOf}
 
 -- the word at the counter, and 0 where there is none
-abbrev pub wordAt : Fetched → ℕ
-wordAt (fetch.Word w) = w
-wordAt fetch.NoWord = 0
+abbrev pub wordHere : Fetched → ℕ
+wordHere (fetch.Word w) = w
+wordHere fetch.NoWord = 0
 
 -- the word behind a stop, where the word w stands at the counter: of 11 there is none, 0
 abbrev pub stopWord : ℕ → Stop → ℕ
@@ -52,7 +52,7 @@ causeOf pc w (Stopped s) = record { answer = Ran (Stopped s); word = stopWord w 
 
 unfoldable pub nextOf : List ℕ → Env → Machine → Cause
 nextOf p e m =
-    causeOf (m .ctl .pc) (wordAt (fetched p (e .bases .program) (m .ctl .pc))) (stepOf p e m .outcome)
+    causeOf (m .ctl .pc) (wordHere (fetched p (e .bases .program) (m .ctl .pc))) (stepOf p e m .outcome)
 
 -- with its set-up limits: a refused one has no word and no fact
 abbrev pub unlessRefused : Setup → Cause → Cause

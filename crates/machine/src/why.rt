@@ -13,7 +13,7 @@ use state::windows::Bases;
 ghost use mathlib.Core.Path.{_≡_};
 ghost use lib.ListN.{length};
 ghost use Rattle.state.specs.Machine.{env, machine};
-ghost use Rattle.machine.specs.Why.{wordAt, stopWord, stopFact, causeOf, nextOf, whyOf, WhyIs};
+ghost use Rattle.machine.specs.Why.{wordHere, stopWord, stopFact, causeOf, nextOf, whyOf, WhyIs};
 
 // How the step would end, and the word and the fact behind a stop: 0 where there is none.
 pub struct Cause {
@@ -24,7 +24,7 @@ pub struct Cause {
 
 // The word that was fetched, 0 where there is none.
 fn word_here(f: Fetched) -> u32
-    ensures { λ r. ⌜ r ≡ wordAt f ⌝ }
+    ensures { λ r. ⌜ r ≡ wordHere f ⌝ }
 {
     match f {
         Fetched::Word(w) => w,
@@ -62,6 +62,7 @@ fn fact_of(s: Stop, pc: u64, w: u32) -> u64
     }
 }
 
+// What is told of a step that ends so, at the counter pc, where the word w stands.
 fn cause_of(o: Outcome, pc: u64, w: u32) -> Cause
     ensures { λ r. ⌜ r ≡ causeOf pc w o ⌝ }
 {
@@ -79,7 +80,7 @@ fn cause_of(o: Outcome, pc: u64, w: u32) -> Cause
     }
 }
 
-// The same of the next step, for a set-up that was accepted.
+// The next step's, for a set-up that was accepted.
 fn next(
     bases: Bases,
     program: &[u8],
@@ -89,7 +90,7 @@ fn next(
     work: &[u8],
     c: Control,
 ) -> Cause
-    requires { ⌜ (length (now vectors) ≡ 512) × (length (now generals) ≡ 256) ⌝ }
+    requires { ⌜ length (now generals) ≡ 256 ⌝ }
     ensures { λ r. ⌜ r ≡ nextOf (now (program .entry)) (env bases (now (table .entry)))
         (machine (now (vectors .entry)) (now (generals .entry)) (now (work .entry)) c) ⌝ }
 {

@@ -2,7 +2,6 @@
 -- Assumes nothing.
 use mathlib.Core.Path.{_≡_, refl}
 use mathlib.Core.Bool.{Bool, true, false, cond}
-use mathlib.Core.List.{List}
 use Prim.Native.Nat.{ℕ, _<_}
 use lib.Dec.{eqb}
 use lib.ListN.{length}
@@ -29,6 +28,13 @@ use Rattle.plan.specs.Numbers.{address}
 use Rattle.plan.specs.Plan.{planOf, executed, accessed, loaded, stored, generalAt, kindOf, early, unless}
 use Rattle.plan.specs.There.{There}
 
+-- what a CTCMSA may come to, and a fact of each
+pub control-cases : (f : Plan → Type 0) (bits x : ℕ) → f (plan.Stop (Trap bits)) → f (plan.Csr x) → f plan.Nothing
+    → (one? trap? : Bool) → f (cond one? (cond trap? (plan.Stop (Trap bits)) (plan.Csr x)) plan.Nothing)
+control-cases f bits x s c n true true = s
+control-cases f bits x s c n true false = c
+control-cases f bits x s c n false trap? = n
+
 module _ (e : Env) (m : Machine) where
   abbrev Names : Plan → Type 0
   Names = There (e .bases .work) (length (m .work))
@@ -52,12 +58,6 @@ module _ (e : Env) (m : Machine) where
   accessed-there Ld wd a h = loaded-there (spot a) wd h
   accessed-there St wd a h = stored-there a (registerAt (m .vec) wd) (spot a) refl
 
-  control-there : (one? trap? : Bool) (bits x : ℕ)
-      → Names (cond one? (cond trap? (plan.Stop (Trap bits)) (plan.Csr x)) plan.Nothing)
-  control-there true true bits x = tt
-  control-there true false bits x = tt
-  control-there false trap? bits x = tt
-
   executed-there : (i : Instr) → Formed i → Names (executed e m i)
   executed-there (instr.Three o df wd ws wt) f = f .0
   executed-there (instr.Indexed o df wd ws rt) f = f .0
@@ -74,7 +74,8 @@ module _ (e : Env) (m : Machine) where
   executed-there (instr.Move wd ws) f = f .0
   executed-there (instr.Cfcmsa rd cs) f = f .0
   executed-there (instr.Ctcmsa cd rs) f =
-      let x = masked (generalAt (m .gen) rs) in control-there (eqb (cd .0) 1) (arms x) (arming x) x
+      let x = masked (generalAt (m .gen) rs) in
+      control-cases Names (arming x) x tt tt tt (eqb (cd .0) 1) (arms x)
   executed-there (instr.Vec o wd ws wt) f = f .0
   executed-there (instr.Fill df wd rs) f = f .0
   executed-there (instr.Count o df wd ws) f = f .0

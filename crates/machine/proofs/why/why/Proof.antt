@@ -2,7 +2,7 @@
 use Rattle.state.proofs.Said.{setup-is}
 use Rattle.state.proofs.SetupLaws.{accepted}
 use Rattle.state.specs.Machine.{env, machine}
-use Rattle.machine.proofs.WhyLaws.{says}
+use Rattle.machine.proofs.WhyLaws.{meets}
 use borrow.Author.Needs.{needs}
 use mathlib.Core.Path.{refl, sym, _∙_}
 use Rattle.machine.proofs.why.why.Statement.{statement}
@@ -15,15 +15,15 @@ next-requires c κs =
     (machine (a .vectors .now) (a .generals .now) (a .work .now) (a .c))
     (sym (setup-is (c .before .before .check .ensures)) ∙ c .enum-told .given .1)
     in
-    (sized .vectors, sized .generals)
+    sized .generals
 
 returns : tie.Need-returns
 returns c =
     rw (← setup-is (c .before .before .before .check .ensures), c .before .enum-told .given .1)
-    (says (c .next .ensures))
+    (meets (c .next .ensures))
 
 returns-2 : tie.Need-returns-2
-returns-2 c = rw (← setup-is (c .before .before .before .check .ensures), c .before .r .given .1) (says refl)
+returns-2 c = rw (← setup-is (c .before .before .before .check .ensures), c .before .r .given .1) (meets refl)
 
 pub why-spec : {M : Type 1} → statement M
 why-spec =
