@@ -33,8 +33,8 @@ pub record Sized (e : Env) (m : Machine) : Type 0 where
   pub generals : length (m .gen) ≡ 256
   pub table-small : length (e .table) ≤ 1048576
   pub work-small : length (m .work) ≤ 1048576
-  pub table : e .bases .table + length (e .table) ≤ 2 ^ 64
-  pub work : e .bases .work + length (m .work) ≤ 2 ^ 64
+  pub table : e .board .table + length (e .table) ≤ 2 ^ 64
+  pub work : e .board .work + length (m .work) ≤ 2 ^ 64
 
 pub accepted : (p : List ℕ) (e : Env) (m : Machine) → refusal p e m ≡ Accepted → Sized e m
 unfolding refusal
@@ -42,13 +42,13 @@ accepted p e m r =
     let one = passed _ _ r in
     let two = passed _ _ (one .1) in
     let three = passed _ _ (two .1) in
-    let t = windowBad (e .bases .table) (length (e .table)) in
-    let w = windowBad (e .bases .work) (length (m .work)) in
+    let t = windowBad (e .board .table) (length (e .table)) in
+    let w = windowBad (e .board .work) (length (m .work)) in
     record {
       vectors = vectors-sized (length (m .vec)) (length (m .gen)) (one .0);
       generals = generals-sized (length (m .vec)) (length (m .gen)) (one .0);
-      table-small = window-small (e .bases .table) (length (e .table)) (or-left t w (three .0));
-      work-small = window-small (e .bases .work) (length (m .work)) (or-right t w (three .0));
-      table = window-ends (e .bases .table) (length (e .table)) (or-left t w (three .0));
-      work = window-ends (e .bases .work) (length (m .work)) (or-right t w (three .0));
+      table-small = window-small (e .board .table) (length (e .table)) (or-left t w (three .0));
+      work-small = window-small (e .board .work) (length (m .work)) (or-right t w (three .0));
+      table = window-ends (e .board .table) (length (e .table)) (or-left t w (three .0));
+      work = window-ends (e .board .work) (length (m .work)) (or-right t w (three .0));
     }

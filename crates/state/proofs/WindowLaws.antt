@@ -8,7 +8,7 @@ use native.Mathlib.Decide.{decLe}
 use borrow.Author.Tests.{le-leb, lt-leb}
 use lib.Dec.{ltb}
 use Rattle.state.proofs.TestLaws.{and-false, ltb-same}
-use Rattle.state.specs.declared.windows.Bases.{Bases}
+use Rattle.state.specs.declared.board.Board.{Board}
 use Rattle.state.specs.declared.windows.Found.{Found}
 use Rattle.state.specs.declared.windows.Found.the-variants.{At, Nowhere}
 use Rattle.state.specs.declared.windows.Spot.the-variants.{Table, Work, Outside}
@@ -36,7 +36,7 @@ module _ (base len a : ℕ) where
       go (yes h) (no k) = let z : _≡_ {A = ℕ} 0 1 = cc (placed-past (omega arith)) in absurd (omega arith)
       go (no h) d = let z : _≡_ {A = ℕ} 0 1 = cc (placed-below (omega arith)) in absurd (omega arith)
 
-module _ (b : Bases) (table work a : ℕ) where
+module _ (b : Board) (table work a : ℕ) where
   -- the address that is missing where neither window has all sixteen
   abbrev missingHere : ℕ
   missingHere = missing b table work a
@@ -48,14 +48,17 @@ module _ (b : Bases) (table work a : ℕ) where
   inWork = placed (b .work) work a
 
   -- the bytes that a spot names are there
-  pub spot-table : (i : ℕ) → spotOf b table work a ≡ Table i → i + 16 ≤ table
+  pub spot-table : (i : ℕ) → spotOf b table work a ≡ Table i
+      → (b .table ≤ a) × (a + 16 ≤ b .table + table) × (i ≡ a - b .table)
   spot-table i e = go inTable refl e
     where
-      go : (f : Found) → inTable ≡ f → orElse missingHere f inWork ≡ Table i → i + 16 ≤ table
-      go (At j) p q = let h = placed-fits (b .table) table a j p in let s : i ≡ j = cc in omega arith
+      go : (f : Found) → inTable ≡ f → orElse missingHere f inWork ≡ Table i
+          → (b .table ≤ a) × (a + 16 ≤ b .table + table) × (i ≡ a - b .table)
+      go (At j) p q = placed-fits (b .table) table a i (cc)
       go Nowhere p q = go₂ inWork q
         where
-          go₂ : (f : Found) → orWork missingHere f ≡ Table i → i + 16 ≤ table
+          go₂ : (f : Found) → orWork missingHere f ≡ Table i
+              → (b .table ≤ a) × (a + 16 ≤ b .table + table) × (i ≡ a - b .table)
           go₂ (At j) r = let z : _≡_ {A = ℕ} 0 1 = cc in absurd (omega arith)
           go₂ Nowhere r = let z : _≡_ {A = ℕ} 0 1 = cc in absurd (omega arith)
 
@@ -113,7 +116,7 @@ module _ (base len x : ℕ) where
   unfolding firstOutside
   outside-none n e = ap (λ k. firstOutside k base len x) e
 
-module _ (b : Bases) (table work a : ℕ) where
+module _ (b : Board) (table work a : ℕ) where
   pub missing-table : liesIn (b .table) table a ≡ true
       → missing b table work a ≡ firstOutside 16 (b .table) table a
   unfolding missing

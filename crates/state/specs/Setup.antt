@@ -13,7 +13,7 @@ use Rattle.state.specs.declared.setup.Refusal.{Refusal}
 use Rattle.state.specs.declared.setup.Refusal.the-variants.{Registers, Program, WindowSize, SharedAddress, State}
 use Rattle.state.specs.declared.setup.Setup.{Setup}
 use Rattle.state.specs.declared.setup.Setup.the-variants.{Accepted, Refused}
-use Rattle.state.specs.declared.windows.Bases.{Bases}
+use Rattle.state.specs.declared.board.Board.{Board}
 use Rattle.state.specs.Csr.{masked}
 use Rattle.state.specs.Machine.{Env, Machine}
 use Rattle.state.specs.Numbers.{refusalNumber}
@@ -61,7 +61,7 @@ first [] = Accepted
 first (l ∷ ls) = cond (l .broken) (Refused (l .refusal)) (first ls)
 
 -- 2 to 5, for a program, a table and a work window of these lengths and general registers of these bytes
-abbrev pub laterLimits : Bases → ℕ → ℕ → List ℕ → ℕ → Control → List Limit
+abbrev pub laterLimits : Board → ℕ → ℕ → List ℕ → ℕ → Control → List Limit
 laterLimits b program table generals work c =
     row (programBad (b .program) program) Program
     ∷ row (windowBad (b .table) table || windowBad (b .work) work) WindowSize
@@ -72,7 +72,7 @@ laterLimits b program table generals work c =
 abbrev pub limits : List ℕ → Env → Machine → List Limit
 limits program e m =
     row (registersBad (length (m .vec)) (length (m .gen))) Registers
-    ∷ laterLimits (e .bases) (length program) (length (e .table)) (m .gen) (length (m .work)) (m .ctl)
+    ∷ laterLimits (e .board) (length program) (length (e .table)) (m .gen) (length (m .work)) (m .ctl)
 
 unfoldable pub refusal : List ℕ → Env → Machine → Setup
 refusal program e m = first (limits program e m)

@@ -3,7 +3,7 @@
 use Prim.Native.Nat.{ℕ, zero, suc, _+_, _-_, _%_, _^_}
 use mathlib.Core.Bool.{Bool, cond, _&&_}
 use lib.Dec.{leb, ltb}
-use Rattle.state.specs.declared.windows.Bases.{Bases}
+use Rattle.state.specs.declared.board.Board.{Board}
 use Rattle.state.specs.declared.windows.Found.{Found}
 use Rattle.state.specs.declared.windows.Found.the-variants.{At, Nowhere}
 use Rattle.state.specs.declared.windows.Spot.{Spot}
@@ -25,7 +25,7 @@ firstOutside (suc n) base len a = cond (liesIn base len a) (firstOutside n base 
 
 -- of the sixteen addresses the first that does not lie in the window holding the first byte, or the first address
 -- itself if no window holds it
-unfoldable pub missing : Bases → ℕ → ℕ → ℕ → ℕ
+unfoldable pub missing : Board → ℕ → ℕ → ℕ → ℕ
 missing b table work a =
     cond (liesIn (b .table) table a) (firstOutside 16 (b .table) table a)
     (cond (liesIn (b .work) work a) (firstOutside 16 (b .work) work a) a)
@@ -40,5 +40,5 @@ orElse x (At i) f = Table i
 orElse x Nowhere f = orWork x f
 
 -- the window, and the place in it; limit 4 keeps the windows apart, so it does not matter which is asked first
-abbrev pub spotOf : Bases → ℕ → ℕ → ℕ → Spot
+abbrev pub spotOf : Board → ℕ → ℕ → ℕ → Spot
 spotOf b table work a = orElse (missing b table work a) (placed (b .table) table a) (placed (b .work) work a)

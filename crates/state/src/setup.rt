@@ -1,7 +1,7 @@
 // The set-up limits 1 to 5: a step or a run is refused by the first that is broken, and then changes nothing.
+use crate::board::Board;
 use crate::control::Control;
 use crate::control::Mark;
-use crate::windows::Bases;
 ghost use mathlib.Core.Path.{_≡_};
 ghost use mathlib.Core.Bool.{cond};
 ghost use Prim.Native.Nat.{_+_, _^_};
@@ -103,7 +103,7 @@ fn unless(broken: bool, r: Refusal, rest: Setup) -> Setup
 
 // The limits 2 to 5.
 fn later(
-    bases: Bases,
+    board: Board,
     program: usize,
     table: usize,
     generals: &[u8],
@@ -111,22 +111,22 @@ fn later(
     c: Control,
 ) -> Setup
     requires { ⌜ length (now generals) ≡ 256 ⌝ }
-    ensures { λ r. ⌜ r ≡ first (laterLimits bases program table (now (generals .entry)) work c) ⌝ }
+    ensures { λ r. ⌜ r ≡ first (laterLimits board program table (now (generals .entry)) work c) ⌝ }
 {
     let state = unless(
         state_bad(memory::eight(generals, 0), c),
         Refusal::State,
         Setup::Accepted,
     );
-    let shared = windows_share(bases.table, table, bases.work, work);
-    let sizes = window_bad(bases.table, table) | window_bad(bases.work, work);
+    let shared = windows_share(board.table, table, board.work, work);
+    let sizes = window_bad(board.table, table) | window_bad(board.work, work);
     let windows = unless(
         sizes,
         Refusal::WindowSize,
         unless(shared, Refusal::SharedAddress, state),
     );
     unless(
-        program_bad(bases.program, program),
+        program_bad(board.program, program),
         Refusal::Program,
         windows,
     )
@@ -134,7 +134,7 @@ fn later(
 
 // The first limit that is broken.
 pub fn check(
-    bases: Bases,
+    board: Board,
     program: &[u8],
     table: &[u8],
     vectors: &[u8],
@@ -142,11 +142,11 @@ pub fn check(
     work: &[u8],
     c: Control,
 ) -> Setup
-    ensures { λ r. ⌜ Checks (refusal (now (program .entry)) (env bases (now (table .entry))) (machine (now (vectors .entry)) (now (generals .entry)) (now (work .entry)) c)) r ⌝ }
+    ensures { λ r. ⌜ Checks (refusal (now (program .entry)) (env board (now (table .entry))) (machine (now (vectors .entry)) (now (generals .entry)) (now (work .entry)) c)) r ⌝ }
 {
     if registers_bad(vectors.len(), generals.len()) {
         Setup::Refused(Refusal::Registers)
     } else {
-        later(bases, program.len(), table.len(), generals, work.len(), c)
+        later(board, program.len(), table.len(), generals, work.len(), c)
     }
 }

@@ -1,15 +1,9 @@
 // The two data windows, the read-only table and the work window: where the sixteen bytes of a load or a store stand, or
 // which of them is missing.
+use crate::board::Board;
 use std::num::wrapping_add_u64;
 ghost use mathlib.Core.Path.{_≡_};
 ghost use Rattle.state.specs.Windows.{placed, liesIn, firstOutside, missing, spotOf};
-
-// Where the program, the table and the work window begin.
-pub struct Bases {
-    pub program: u64,
-    pub table: u64,
-    pub work: u64,
-}
 
 pub enum Found {
     At(usize),
@@ -63,13 +57,13 @@ fn first_outside(base: u64, len: usize, a: u64) -> u64
 
 // The first of the sixteen addresses from a that does not lie in the window holding a. Where neither window holds a,
 // that is a itself, the first outside the work window.
-fn missing_of(bases: Bases, table: usize, work: usize, a: u64) -> u64
-    ensures { λ r. ⌜ r ≡ missing bases table work a ⌝ }
+fn missing_of(board: Board, table: usize, work: usize, a: u64) -> u64
+    ensures { λ r. ⌜ r ≡ missing board table work a ⌝ }
 {
-    if lies_in(bases.table, table, a) {
-        return first_outside(bases.table, table, a);
+    if lies_in(board.table, table, a) {
+        return first_outside(board.table, table, a);
     }
-    first_outside(bases.work, work, a)
+    first_outside(board.work, work, a)
 }
 
 pub enum Spot {
@@ -80,14 +74,14 @@ pub enum Spot {
 }
 
 // The one window that holds all sixteen bytes from a, or the address that is missing.
-pub fn locate(bases: Bases, table: usize, work: usize, a: u64) -> Spot
-    ensures { λ r. ⌜ r ≡ spotOf bases table work a ⌝ }
+pub fn locate(board: Board, table: usize, work: usize, a: u64) -> Spot
+    ensures { λ r. ⌜ r ≡ spotOf board table work a ⌝ }
 {
-    match find(bases.table, table, a) {
+    match find(board.table, table, a) {
         Found::At(i) => Spot::Table(i),
-        Found::Nowhere => match find(bases.work, work, a) {
+        Found::Nowhere => match find(board.work, work, a) {
             Found::At(i) => Spot::Work(i),
-            Found::Nowhere => Spot::Outside(missing_of(bases, table, work, a)),
+            Found::Nowhere => Spot::Outside(missing_of(board, table, work, a)),
         },
     }
 }

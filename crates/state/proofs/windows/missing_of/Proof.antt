@@ -9,13 +9,13 @@ returns : tie.Need-returns
 returns c =
     let a = c .before .before .before .args in
     let lies = sym (c .before .before .lies-in .ensures) ∙ c .before .if1 .taken in
-    c .first-outside .ensures ∙ sym (missing-table (a .bases) (a .table) (a .work) (a .a) lies)
+    c .first-outside .ensures ∙ sym (missing-table (a .board) (a .table) (a .work) (a .a) lies)
 
 returns-2 : tie.Need-returns-2
 returns-2 c =
     let a = c .before .before .before .args in
     let lies = sym (c .before .before .lies-in .ensures) ∙ c .before .if1 .left in
-    c .first-outside2 .ensures ∙ sym (missing-other (a .bases) (a .table) (a .work) (a .a) lies)
+    c .first-outside2 .ensures ∙ sym (missing-other (a .board) (a .table) (a .work) (a .a) lies)
 
 pub missing-of-spec : {M : Type 1} → statement M
 missing-of-spec =

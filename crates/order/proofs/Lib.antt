@@ -1,0 +1,4 @@
+pub mod ByteLaws
+pub mod OrderLaws
+pub mod MovedLaws
+pub mod TurnLaws
