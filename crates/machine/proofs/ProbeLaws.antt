@@ -17,6 +17,7 @@ use Rattle.isa.specs.declared.Memory.the-variants.{Ld, St}
 use Rattle.isa.specs.declared.Read.{Read}
 use Rattle.isa.specs.declared.Read.the-variants as read
 use Rattle.isa.specs.declared.Vreg.{Vreg}
+use Rattle.isa.specs.declared.Width.{Width}
 use Rattle.ops.specs.Meaning.{memoryAt}
 use Rattle.plan.specs.declared.Plan.{Plan}
 use Rattle.plan.specs.declared.planned.Kind.{Kind}
@@ -30,7 +31,7 @@ use Rattle.state.specs.declared.control.Mark.{Mark}
 use Rattle.state.specs.declared.control.Mark.the-variants.{Clear, NotTaken, Taken}
 use Rattle.state.specs.declared.fetch.Fetched.{Fetched}
 use Rattle.state.specs.declared.fetch.Fetched.the-variants as fetch
-use Rattle.state.specs.declared.windows.Bases.{Bases}
+use Rattle.state.specs.declared.board.Board.{Board}
 use Rattle.state.specs.declared.windows.Found.{Found}
 use Rattle.state.specs.declared.windows.Found.the-variants.{At, Nowhere}
 use Rattle.state.specs.declared.windows.Spot.{Spot}
@@ -59,14 +60,14 @@ lies-empty base a = go (decLe base a)
     go (yes h) = lies-from base 0 a h ∙ le-ltb (a - base) 0 (omega arith)
     go (no h) = lies-below base 0 a (omega arith)
 
-missing-empty : (b : Bases) (a : ℕ) → missing b 0 0 a ≡ a
+missing-empty : (b : Board) (a : ℕ) → missing b 0 0 a ≡ a
 missing-empty b a =
     missing-other b 0 0 a (lies-empty (b .table) a) ∙ outside-here (b .work) 0 a 16 (lies-empty (b .work) a)
 
-spot-empty : (b : Bases) (a : ℕ) → spotOf b 0 0 a ≡ Outside a
+spot-empty : (b : Board) (a : ℕ) → spotOf b 0 0 a ≡ Outside a
 spot-empty b a = rw (placed-empty (b .table) a, placed-empty (b .work) a, missing-empty b a)
 
-module _ (b : Bases) (t v g w : List ℕ) (c : Control) where
+module _ (b : Board) (t v g w : List ℕ) (c : Control) where
   abbrev here : Env
   here = env b t
 
@@ -88,24 +89,28 @@ module _ (b : Bases) (t v g w : List ℕ) (c : Control) where
 
   -- by what the table, the work window and the empty one say of its address; where they say nothing, y is missing, and
   -- z from the scratch machine
-  load-settles : (wd : Vreg) (y z : ℕ) (f h e : Found)
-      → outcomeOf (loaded (orElse y f h) wd t w) ≡ placedAs (orElse y f h) (outcomeOf (loaded (orElse z f e) wd t []))
-  load-settles wd y z (At i) h e = refl
-  load-settles wd y z Nowhere (At i) e = refl
-  load-settles wd y z Nowhere Nowhere e = refl
+  module _ (df : Width) where
+    load-settles : (wd : Vreg) (y z : ℕ) (f h e : Found)
+        → outcomeOf (loaded (orElse y f h) (b .order) df wd t w)
+        ≡ placedAs (orElse y f h) (outcomeOf (loaded (orElse z f e) (b .order) df wd t []))
+    load-settles wd y z (At i) h e = refl
+    load-settles wd y z Nowhere (At i) e = refl
+    load-settles wd y z Nowhere Nowhere e = refl
 
-  store-settles : (a x₁ x₂ y z : ℕ) (f h e : Found)
-      → outcomeOf (stored (orElse y f h) a x₁) ≡ placedAs (orElse y f h) (outcomeOf (stored (orElse z f e) a x₂))
-  store-settles a x₁ x₂ y z (At i) h e = refl
-  store-settles a x₁ x₂ y z Nowhere (At i) e = refl
-  store-settles a x₁ x₂ y z Nowhere Nowhere e = refl
+    store-settles : (a x₁ x₂ y z : ℕ) (f h e : Found)
+        → outcomeOf (stored (orElse y f h) (b .order) df a x₁)
+        ≡ placedAs (orElse y f h) (outcomeOf (stored (orElse z f e) (b .order) df a x₂))
+    store-settles a x₁ x₂ y z (At i) h e = refl
+    store-settles a x₁ x₂ y z Nowhere (At i) e = refl
+    store-settles a x₁ x₂ y z Nowhere Nowhere e = refl
 
-  accessed-settles : (o : Memory) (wd : Vreg) (a : ℕ)
-      → Settles (accessed o b t v w wd a) (accessed o b t (tried .vec) [] wd a) (accessed o b [] (tried .vec) [] wd a)
-  accessed-settles Ld wd a =
-      rw (spot-empty b a) (load-settles wd _ _ (placed (b .table) (length t) a) _ _)
-  accessed-settles St wd a =
-      rw (spot-empty b a) (store-settles a _ _ _ _ (placed (b .table) (length t) a) _ _)
+    accessed-settles : (o : Memory) (wd : Vreg) (a : ℕ)
+        → Settles (accessed o df b t v w wd a) (accessed o df b t (tried .vec) [] wd a)
+        (accessed o df b [] (tried .vec) [] wd a)
+    accessed-settles Ld wd a =
+        rw (spot-empty b a) (load-settles wd _ _ (placed (b .table) (length t) a) _ _)
+    accessed-settles St wd a =
+        rw (spot-empty b a) (store-settles a _ _ _ _ (placed (b .table) (length t) a) _ _)
 
   executed-settles : (i : Instr) → Settles (executed here whole i) (executed here tried i) (executed bare tried i)
   executed-settles (instr.Three o df wd ws wt) = refl
@@ -129,7 +134,7 @@ module _ (b : Bases) (t v g w : List ℕ) (c : Control) where
   executed-settles (instr.Fill df wd rs) = refl
   executed-settles (instr.Count o df wd ws) = refl
   executed-settles (instr.Memory o df wd offset rs) =
-      accessed-settles (memoryAt (o .0)) wd (address df offset (generalAt g rs))
+      accessed-settles df (memoryAt (o .0)) wd (address df offset (generalAt g rs))
   executed-settles (instr.Branch o df wt offset) = refl
   executed-settles (instr.BranchV o wt offset) = refl
   executed-settles (instr.Scaled o rd rs rt sa) = refl

@@ -32,7 +32,7 @@ module _ (e : Env) (m : Machine) (s : Stop) where
   clash : {A : Type 0} → Finished ≡ Stopped s → A
   clash h = let z : _≡_ {A = ℕ} 0 1 = cc in absurd (omega arith)
 
-  concluded-kept : (p : Plan) → Kept (concluded (e .bases .work) p m)
+  concluded-kept : (p : Plan) → Kept (concluded (e .board .work) p m)
   concluded-kept (plan.Stop x) h = refl
   concluded-kept plan.Nothing h = clash h
   concluded-kept (plan.Vector r v) h = clash h
@@ -51,7 +51,7 @@ module _ (e : Env) (m : Machine) (s : Stop) where
 
 pub stop-keeps : (p : List ℕ) (e : Env) (m : Machine) (s : Stop) → stepOf p e m .outcome ≡ Stopped s → stepOf p e m .after ≡ m
 unfolding stepOf
-stop-keeps p e m s = attempted-kept e m s (fetched p (e .bases .program) (m .ctl .pc))
+stop-keeps p e m s = attempted-kept e m s (fetched p (e .board .program) (m .ctl .pc))
 
 -- two machines are one where their parts are
 pub same-machine : (m : Machine) (v g w : List ℕ) (c : Control) → v ≡ m .vec → g ≡ m .gen → w ≡ m .work → c ≡ m .ctl → m ≡ machine v g w c

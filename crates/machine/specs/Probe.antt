@@ -7,7 +7,7 @@ use lib.ListN.{length, replicate}
 use Rattle.state.specs.declared.control.Control.{Control}
 use Rattle.state.specs.declared.stops.Stop.{Stop}
 use Rattle.state.specs.declared.stops.Stop.the-variants as stop
-use Rattle.state.specs.declared.windows.Bases.{Bases}
+use Rattle.state.specs.declared.board.Board.{Board}
 use Rattle.state.specs.declared.windows.Spot.{Spot}
 use Rattle.state.specs.declared.windows.Spot.the-variants.{Table, Work, Outside}
 use Rattle.state.specs.Machine.{Machine, env, machine}
@@ -20,7 +20,7 @@ use Rattle.machine.specs.Step.{stepOf}
 abbrev pub scratch : List ℕ → Control → Machine
 scratch g c = machine (replicate 512 0) g [] c
 
-unfoldable pub probeOf : List ℕ → Bases → List ℕ → List ℕ → Control → Outcome
+unfoldable pub probeOf : List ℕ → Board → List ℕ → List ℕ → Control → Outcome
 probeOf p b t g c = stepOf p (env b t) (scratch g c) .outcome
 
 -- a load or a store by the place of its bytes, where it ends as o with the table
@@ -44,5 +44,5 @@ settled at o Finished = Finished
 settled at o (Stopped s) = settledStop at o s
 
 -- how a step ends
-abbrev pub endOf : List ℕ → Bases → List ℕ → List ℕ → List ℕ → Control → Outcome
+abbrev pub endOf : List ℕ → Board → List ℕ → List ℕ → List ℕ → Control → Outcome
 endOf p b t g w c = settled (λ a. spotOf b (length t) (length w) a) (probeOf p b t g c) (probeOf p b [] g c)

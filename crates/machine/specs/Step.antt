@@ -53,14 +53,14 @@ concluded base p m = result (outcomeOf p) (applied base p m)
 -- a word that reads as no instruction goes no further than 12 to 14
 abbrev pub decided : Read → Env → Machine → Result
 decided (Not u) e m = stops (Unread u) m
-decided (Instr i) e m = concluded (e .bases .work) (planOf e m i) m
+decided (Instr i) e m = concluded (e .board .work) (planOf e m i) m
 
 abbrev pub attempted : Fetched → Env → Machine → Result
 attempted (fetch.Word w) e m = decided (readOf w) e m
 attempted fetch.NoWord e m = stops NoWord m
 
 unfoldable pub stepOf : List ℕ → Env → Machine → Result
-stepOf program e m = attempted (fetched program (e .bases .program) (m .ctl .pc)) e m
+stepOf program e m = attempted (fetched program (e .board .program) (m .ctl .pc)) e m
 
 -- the code's answer for a result, and what the lent memory holds then
 pub record StepIs (s : Result) (r : Stepped) (v g w : List ℕ) : Type 0 where

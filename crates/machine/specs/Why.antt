@@ -52,7 +52,7 @@ causeOf pc w (Stopped s) = record { answer = Ran (Stopped s); word = stopWord w 
 
 unfoldable pub nextOf : List ℕ → Env → Machine → Cause
 nextOf p e m =
-    causeOf (m .ctl .pc) (wordHere (fetched p (e .bases .program) (m .ctl .pc))) (stepOf p e m .outcome)
+    causeOf (m .ctl .pc) (wordHere (fetched p (e .board .program) (m .ctl .pc))) (stepOf p e m .outcome)
 
 -- with its set-up limits: a refused one has no word and no fact
 abbrev pub unlessRefused : Setup → Cause → Cause

@@ -5,11 +5,11 @@ use crate::step::Outcome;
 use crate::step::Stepped;
 use isa::Read;
 use reading::read_word;
+use state::board::Board;
 use state::control::Control;
 use state::fetch;
 use state::fetch::Fetched;
 use state::stops::Stop;
-use state::windows::Bases;
 ghost use mathlib.Core.Path.{_≡_};
 ghost use lib.ListN.{length};
 ghost use Rattle.state.specs.Machine.{env, machine};
@@ -37,7 +37,7 @@ fn unread_stop(r: Read) -> Stop
 
 // One step of a set-up that was accepted.
 pub fn advance(
-    bases: Bases,
+    board: Board,
     program: &[u8],
     table: &[u8],
     vectors: &mut [u8],
@@ -46,14 +46,14 @@ pub fn advance(
     c: Control,
 ) -> Stepped
     requires { ⌜ (length (now vectors) ≡ 512) × (length (now generals) ≡ 256) ⌝ }
-    ensures { λ r. ⌜ StepIs (stepOf (now (program .entry)) (env bases (now (table .entry))) (machine (now (vectors .entry)) (now (generals .entry)) (now (work .entry)) c)) r (now (vectors .exit)) (now (generals .exit)) (now (work .exit)) ⌝ }
+    ensures { λ r. ⌜ StepIs (stepOf (now (program .entry)) (env board (now (table .entry))) (machine (now (vectors .entry)) (now (generals .entry)) (now (work .entry)) c)) r (now (vectors .exit)) (now (generals .exit)) (now (work .exit)) ⌝ }
 {
-    let Fetched::Word(w) = fetch::word_at(program, bases.program, c.pc) else {
+    let Fetched::Word(w) = fetch::word_at(program, board.program, c.pc) else {
         return stopped(Stop::NoWord, c);
     };
     let reading = read_word(w);
     let Read::Instr(i) = reading else {
         return stopped(unread_stop(reading), c);
     };
-    act(i, bases, table, vectors, generals, work, c)
+    act(i, board, table, vectors, generals, work, c)
 }

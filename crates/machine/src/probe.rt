@@ -3,10 +3,10 @@
 // that the reader and the plans have one caller: with a second they are compiled apart, and every step is slower.
 use crate::advance::advance;
 use crate::step::Outcome;
+use state::board::Board;
 use state::control::Control;
 use state::stops::Stop;
 use state::windows;
-use state::windows::Bases;
 use state::windows::Spot;
 ghost use mathlib.Core.Path.{_≡_};
 ghost use lib.ListN.{length};
@@ -24,22 +24,22 @@ fn copy(to: &mut [u8], from: &[u8])
 }
 
 // How the step ends where the vector registers are 0 and the work window is empty.
-fn probe(bases: Bases, program: &[u8], table: &[u8], generals: &[u8], c: Control) -> Outcome
+fn probe(board: Board, program: &[u8], table: &[u8], generals: &[u8], c: Control) -> Outcome
     requires { ⌜ length (now generals) ≡ 256 ⌝ }
-    ensures { λ r. ⌜ r ≡ probeOf (now (program .entry)) bases (now (table .entry)) (now (generals .entry)) c ⌝ }
+    ensures { λ r. ⌜ r ≡ probeOf (now (program .entry)) board (now (table .entry)) (now (generals .entry)) c ⌝ }
 {
     let mut v = [0u8; 512];
     let mut g = [0u8; 256];
     let mut w = [0u8; 0];
     copy(&mut g, generals);
-    let s = advance(bases, program, table, &mut v, &mut g, &mut w, c);
+    let s = advance(board, program, table, &mut v, &mut g, &mut w, c);
     s.outcome
 }
 
 // How the step ends. Without windows a load or a store stops with 17 and names its first address, and then the windows
 // say what becomes of it.
 pub fn end_of(
-    bases: Bases,
+    board: Board,
     program: &[u8],
     table: &[u8],
     generals: &[u8],
@@ -47,18 +47,18 @@ pub fn end_of(
     c: Control,
 ) -> Outcome
     requires { ⌜ length (now generals) ≡ 256 ⌝ }
-    ensures { λ r. ⌜ r ≡ endOf (now (program .entry)) bases (now (table .entry)) (now (generals .entry))
+    ensures { λ r. ⌜ r ≡ endOf (now (program .entry)) board (now (table .entry)) (now (generals .entry))
         (now (work .entry)) c ⌝ }
 {
-    let o = probe(bases, program, &[0u8; 0], generals, c);
+    let o = probe(board, program, &[0u8; 0], generals, c);
     let Outcome::Stopped(s) = o else {
         return o;
     };
     let Stop::NoWindow(a) = s else {
         return o;
     };
-    match windows::locate(bases, table.len(), work.len(), a) {
-        Spot::Table(_) => probe(bases, program, table, generals, c),
+    match windows::locate(board, table.len(), work.len(), a) {
+        Spot::Table(_) => probe(board, program, table, generals, c),
         Spot::Work(_) => Outcome::Finished,
         Spot::Outside(x) => Outcome::Stopped(Stop::NoWindow(x)),
     }

@@ -1,12 +1,12 @@
 // A run on lent memory: steps, counted, until one stops or the budget is spent.
 use crate::advance::advance;
 use crate::step::Outcome;
+use state::board::Board;
 use state::control::Control;
 use state::setup;
 use state::setup::Refusal;
 use state::setup::Setup;
 use state::stops::Stop;
-use state::windows::Bases;
 ghost use mathlib.Core.Path.{_≡_};
 ghost use lib.ListN.{length};
 ghost use Rattle.state.specs.Machine.{env, machine};
@@ -28,7 +28,7 @@ pub struct Ended {
 
 // Steps until one stops or the budget is spent, for a set-up that was accepted.
 fn turns(
-    bases: Bases,
+    board: Board,
     program: &[u8],
     table: &[u8],
     vectors: &mut [u8],
@@ -38,12 +38,12 @@ fn turns(
     budget: u32,
 ) -> Ended
     requires { ⌜ (length (now vectors) ≡ 512) × (length (now generals) ≡ 256) ⌝ }
-    ensures { λ r. ⌜ RunIs (runs (now (program .entry)) (env bases (now (table .entry))) budget (machine (now (vectors .entry)) (now (generals .entry)) (now (work .entry)) c)) r (now (vectors .exit)) (now (generals .exit)) (now (work .exit)) ⌝ }
+    ensures { λ r. ⌜ RunIs (runs (now (program .entry)) (env board (now (table .entry))) budget (machine (now (vectors .entry)) (now (generals .entry)) (now (work .entry)) c)) r (now (vectors .exit)) (now (generals .exit)) (now (work .exit)) ⌝ }
 {
     let mut control = c;
     let mut count: u32 = 0;
     while count < budget {
-        let s = advance(bases, program, table, vectors, generals, work, control);
+        let s = advance(board, program, table, vectors, generals, work, control);
         let outcome = s.outcome;
         match outcome {
             Outcome::Finished => {
@@ -68,7 +68,7 @@ fn turns(
 
 // A run of at most budget instructions: refused by the first broken limit, stopped by the first reason, or spent.
 pub fn run(
-    bases: Bases,
+    board: Board,
     program: &[u8],
     table: &[u8],
     vectors: &mut [u8],
@@ -77,10 +77,10 @@ pub fn run(
     c: Control,
     budget: u32,
 ) -> Ended
-    ensures { λ r. ⌜ RunIs (wholeRun (now (program .entry)) (env bases (now (table .entry))) budget (machine (now (vectors .entry)) (now (generals .entry)) (now (work .entry)) c)) r (now (vectors .exit)) (now (generals .exit)) (now (work .exit)) ⌝ }
+    ensures { λ r. ⌜ RunIs (wholeRun (now (program .entry)) (env board (now (table .entry))) budget (machine (now (vectors .entry)) (now (generals .entry)) (now (work .entry)) c)) r (now (vectors .exit)) (now (generals .exit)) (now (work .exit)) ⌝ }
 {
-    match setup::check(bases, program, table, vectors, generals, work, c) {
-        Setup::Accepted => turns(bases, program, table, vectors, generals, work, c, budget),
+    match setup::check(board, program, table, vectors, generals, work, c) {
+        Setup::Accepted => turns(board, program, table, vectors, generals, work, c, budget),
         Setup::Refused(r) => Ended {
             reason: Reason::Refused(r),
             count: 0,

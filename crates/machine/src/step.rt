@@ -1,11 +1,11 @@
 // One step on lent memory, with its set-up limits.
 use crate::advance::advance;
+use state::board::Board;
 use state::control::Control;
 use state::setup;
 use state::setup::Refusal;
 use state::setup::Setup;
 use state::stops::Stop;
-use state::windows::Bases;
 ghost use mathlib.Core.Path.{_≡_};
 ghost use Rattle.state.specs.Machine.{env, machine};
 ghost use Rattle.machine.specs.Step.{ranAs, wholeStep, WholeIs};
@@ -48,7 +48,7 @@ fn ran(s: Stepped) -> Answered
 
 // One step: refused by the first broken limit, stopped by the first reason, or finished.
 pub fn step(
-    bases: Bases,
+    board: Board,
     program: &[u8],
     table: &[u8],
     vectors: &mut [u8],
@@ -56,10 +56,10 @@ pub fn step(
     work: &mut [u8],
     c: Control,
 ) -> Answered
-    ensures { λ r. ⌜ WholeIs (wholeStep (now (program .entry)) (env bases (now (table .entry))) (machine (now (vectors .entry)) (now (generals .entry)) (now (work .entry)) c)) r (now (vectors .exit)) (now (generals .exit)) (now (work .exit)) ⌝ }
+    ensures { λ r. ⌜ WholeIs (wholeStep (now (program .entry)) (env board (now (table .entry))) (machine (now (vectors .entry)) (now (generals .entry)) (now (work .entry)) c)) r (now (vectors .exit)) (now (generals .exit)) (now (work .exit)) ⌝ }
 {
-    match setup::check(bases, program, table, vectors, generals, work, c) {
-        Setup::Accepted => ran(advance(bases, program, table, vectors, generals, work, c)),
+    match setup::check(board, program, table, vectors, generals, work, c) {
+        Setup::Accepted => ran(advance(board, program, table, vectors, generals, work, c)),
         Setup::Refused(r) => Answered {
             answer: Answer::Refused(r),
             control: c,

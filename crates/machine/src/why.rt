@@ -3,13 +3,13 @@
 use crate::probe::end_of;
 use crate::step::Answer;
 use crate::step::Outcome;
+use state::board::Board;
 use state::control::Control;
 use state::fetch;
 use state::fetch::Fetched;
 use state::setup;
 use state::setup::Setup;
 use state::stops::Stop;
-use state::windows::Bases;
 ghost use mathlib.Core.Path.{_≡_};
 ghost use lib.ListN.{length};
 ghost use Rattle.state.specs.Machine.{env, machine};
@@ -82,7 +82,7 @@ fn cause_of(o: Outcome, pc: u64, w: u32) -> Cause
 
 // The next step's, for a set-up that was accepted.
 fn next(
-    bases: Bases,
+    board: Board,
     program: &[u8],
     table: &[u8],
     vectors: &[u8],
@@ -91,16 +91,16 @@ fn next(
     c: Control,
 ) -> Cause
     requires { ⌜ length (now generals) ≡ 256 ⌝ }
-    ensures { λ r. ⌜ r ≡ nextOf (now (program .entry)) (env bases (now (table .entry)))
+    ensures { λ r. ⌜ r ≡ nextOf (now (program .entry)) (env board (now (table .entry)))
         (machine (now (vectors .entry)) (now (generals .entry)) (now (work .entry)) c) ⌝ }
 {
-    let word = word_here(fetch::word_at(program, bases.program, c.pc));
-    cause_of(end_of(bases, program, table, generals, work, c), c.pc, word)
+    let word = word_here(fetch::word_at(program, board.program, c.pc));
+    cause_of(end_of(board, program, table, generals, work, c), c.pc, word)
 }
 
 // Refused by the first broken limit, or what the next step would do.
 pub fn why(
-    bases: Bases,
+    board: Board,
     program: &[u8],
     table: &[u8],
     vectors: &[u8],
@@ -108,11 +108,11 @@ pub fn why(
     work: &[u8],
     c: Control,
 ) -> Cause
-    ensures { λ r. ⌜ WhyIs (whyOf (now (program .entry)) (env bases (now (table .entry)))
+    ensures { λ r. ⌜ WhyIs (whyOf (now (program .entry)) (env board (now (table .entry)))
         (machine (now (vectors .entry)) (now (generals .entry)) (now (work .entry)) c)) r ⌝ }
 {
-    match setup::check(bases, program, table, vectors, generals, work, c) {
-        Setup::Accepted => next(bases, program, table, vectors, generals, work, c),
+    match setup::check(board, program, table, vectors, generals, work, c) {
+        Setup::Accepted => next(board, program, table, vectors, generals, work, c),
         Setup::Refused(r) => Cause {
             answer: Answer::Refused(r),
             word: 0,

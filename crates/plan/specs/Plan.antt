@@ -6,7 +6,8 @@ use lib.Dec.{eqb}
 use lib.ListN.{length}
 use Rattle.isa.specs.declared.Vreg.{Vreg}
 use Rattle.isa.specs.declared.Greg.{Greg}
-use Rattle.isa.specs.Widths.{bits}
+use Rattle.isa.specs.declared.Width.{Width}
+use Rattle.isa.specs.Widths.{bits, bytes}
 use Rattle.isa.specs.declared.Memory.{Memory}
 use Rattle.isa.specs.declared.Memory.the-variants.{Ld, St}
 use Rattle.isa.specs.declared.Instr.{Instr}
@@ -14,6 +15,8 @@ use Rattle.isa.specs.declared.Instr.the-variants as instr
 use Rattle.memory.specs.Bytes.{part, number}
 use Rattle.memory.specs.File.{registerAt}
 use Rattle.memory.specs.Value.{register}
+use Rattle.order.specs.declared.Order.{Order}
+use Rattle.order.specs.Order.{turned, registerIn}
 use Rattle.ops.specs.Meaning.{threeAt, indexedAt, imm5At, bitAt, logicAt}
 use Rattle.ops.specs.Meaning.{copiedAt, countAt, memoryAt, zeroAt, scaledAt}
 use Rattle.forms.specs.Forms.{threeOf, indexedOf, imm5Of, bitOf, imm8Of, countOf}
@@ -24,7 +27,7 @@ use Rattle.vectors.specs.Register.{whole, together, filled, element}
 use Rattle.state.specs.declared.control.Mark.{Mark}
 use Rattle.state.specs.declared.control.Mark.the-variants.{Clear, NotTaken, Taken}
 use Rattle.state.specs.declared.stops.Stop.the-variants.{BranchInSlot, SwitchedOff, NoWindow, ReadOnly, Trap}
-use Rattle.state.specs.declared.windows.Bases.{Bases}
+use Rattle.state.specs.declared.board.Board.{Board}
 use Rattle.state.specs.declared.windows.Spot.{Spot}
 use Rattle.state.specs.declared.windows.Spot.the-variants.{Table, Work, Outside}
 use Rattle.state.specs.Csr.{masked, arms, arming}
@@ -47,22 +50,25 @@ generalAt generals r = number (part generals (8 * r .0) 8)
 abbrev pub writes : Vreg → ℕ → Plan
 writes r x = plan.Vector r (register x)
 
--- LD answers with the sixteen bytes that stand at its addresses in one window, or stops and names the one missing
-abbrev pub loaded : Spot → Vreg → List ℕ → List ℕ → Plan
-loaded (Table i) wd table work = writes wd (number (part table i 16))
-loaded (Work i) wd table work = writes wd (number (part work i 16))
-loaded (Outside x) wd table work = plan.Stop (NoWindow x)
+-- LD answers with the register for which the sixteen bytes at its addresses in one window stand, or stops and names
+-- the address that is missing
+abbrev pub loaded : Spot → Order → Width → Vreg → List ℕ → List ℕ → Plan
+loaded (Table i) o df wd table work = writes wd (registerIn o (bytes df) (part table i 16))
+loaded (Work i) o df wd table work = writes wd (registerIn o (bytes df) (part work i 16))
+loaded (Outside x) o df wd table work = plan.Stop (NoWindow x)
 
--- ST replaces those of the work window; into the table it stops, and names its address
-abbrev pub stored : Spot → ℕ → ℕ → Plan
-stored (Table i) a x = plan.Stop (ReadOnly a)
-stored (Work i) a x = plan.Store a (register x)
-stored (Outside y) a x = plan.Stop (NoWindow y)
+-- ST replaces those of the work window by the bytes that stand for its register; into the table it stops, and names its
+-- address
+abbrev pub stored : Spot → Order → Width → ℕ → ℕ → Plan
+stored (Table i) o df a x = plan.Stop (ReadOnly a)
+stored (Work i) o df a x = plan.Store a (register (turned o (bytes df) x))
+stored (Outside y) o df a x = plan.Stop (NoWindow y)
 
-abbrev pub accessed : Memory → Bases → List ℕ → List ℕ → List ℕ → Vreg → ℕ → Plan
-accessed Ld bases table vectors work wd a = loaded (spotOf bases (length table) (length work) a) wd table work
-accessed St bases table vectors work wd a =
-    stored (spotOf bases (length table) (length work) a) a (registerAt vectors wd)
+abbrev pub accessed : Memory → Width → Board → List ℕ → List ℕ → List ℕ → Vreg → ℕ → Plan
+accessed Ld df b table vectors work wd a =
+    loaded (spotOf b (length table) (length work) a) (b .order) df wd table work
+accessed St df b table vectors work wd a =
+    stored (spotOf b (length table) (length work) a) (b .order) df a (registerAt vectors wd)
 
 -- CTCMSA to MSACSR keeps the bits that exist, and stops where they arm a trap, and names those that do; to another
 -- control register it is done and changes nothing
@@ -110,7 +116,8 @@ executed e m (instr.Vec k wd ws wt) =
 executed e m (instr.Fill df wd rs) = writes wd (filled (bits df) (generalAt (m .gen) rs))
 executed e m (instr.Count k df wd ws) = writes wd (countOf (countAt (k .0)) (bits df) (registerAt (m .vec) ws))
 executed e m (instr.Memory k df wd offset rs) =
-    accessed (memoryAt (k .0)) (e .bases) (e .table) (m .vec) (m .work) wd (address df offset (generalAt (m .gen) rs))
+    accessed (memoryAt (k .0)) df (e .board) (e .table) (m .vec) (m .work) wd
+    (address df offset (generalAt (m .gen) rs))
 executed e m (instr.Branch k df wt offset) =
     plan.Branch (marked (takenOf (zeroAt (k .0)) df (registerAt (m .vec) wt)) (target (m .ctl .pc) offset))
 executed e m (instr.BranchV k wt offset) =

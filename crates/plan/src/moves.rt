@@ -10,11 +10,12 @@ use isa::Vreg;
 use isa::Width;
 use memory::Register;
 use memory::file::read_register;
+use order::turn;
 use permute::moves::copy_s;
 use permute::moves::copy_u;
+use state::board::Board;
 use state::setup::mask;
 use state::stops::Stop;
-use state::windows::Bases;
 use state::windows::Spot;
 use state::windows::locate;
 ghost use mathlib.Core.Path.{_≡_};
@@ -77,24 +78,35 @@ pub fn to_control(cd: Creg, x: u64) -> Plan
     Plan::Nothing
 }
 
-fn load(wd: Vreg, a: u64, bases: Bases, table: &[u8], work: &[u8]) -> Plan
-    ensures { λ r. ⌜ r ≡ loaded (spotOf bases (length (now (table .entry))) (length (now (work .entry))) a) wd
-        (now (table .entry)) (now (work .entry)) ⌝ }
+fn load(df: Width, wd: Vreg, a: u64, board: Board, table: &[u8], work: &[u8]) -> Plan
+    ensures { λ r. ⌜ r ≡ loaded (spotOf board (length (now (table .entry))) (length (now (work .entry))) a)
+        (board .order) df wd (now (table .entry)) (now (work .entry)) ⌝ }
 {
-    match locate(bases, table.len(), work.len(), a) {
-        Spot::Table(i) => Plan::Vector(wd, memory::sixteen(table, i)),
-        Spot::Work(i) => Plan::Vector(wd, memory::sixteen(work, i)),
+    let order = board.order;
+    match locate(board, table.len(), work.len(), a) {
+        Spot::Table(i) => Plan::Vector(wd, turn(order, df, memory::sixteen(table, i))),
+        Spot::Work(i) => Plan::Vector(wd, turn(order, df, memory::sixteen(work, i))),
         Spot::Outside(x) => Plan::Stop(Stop::NoWindow(x)),
     }
 }
 
-fn store(wd: Vreg, a: u64, bases: Bases, table: usize, work: usize, vectors: &[u8]) -> Plan
+fn store(
+    df: Width,
+    wd: Vreg,
+    a: u64,
+    board: Board,
+    table: usize,
+    work: usize,
+    vectors: &[u8],
+) -> Plan
     requires { ⌜ length (now vectors) ≡ 512 ⌝ }
-    ensures { λ r. ⌜ r ≡ stored (spotOf bases table work a) a (registerAt (now (vectors .entry)) wd) ⌝ }
+    ensures { λ r. ⌜ r ≡ stored (spotOf board table work a) (board .order) df a
+        (registerAt (now (vectors .entry)) wd) ⌝ }
 {
-    match locate(bases, table, work, a) {
+    let order = board.order;
+    match locate(board, table, work, a) {
         Spot::Table(_) => Plan::Stop(Stop::ReadOnly(a)),
-        Spot::Work(_) => Plan::Store(a, read_register(vectors, wd)),
+        Spot::Work(_) => Plan::Store(a, turn(order, df, read_register(vectors, wd))),
         Spot::Outside(x) => Plan::Stop(Stop::NoWindow(x)),
     }
 }
@@ -102,18 +114,19 @@ fn store(wd: Vreg, a: u64, bases: Bases, table: usize, work: usize, vectors: &[u
 // LD and ST at the address a.
 pub fn access(
     op: Memory,
+    df: Width,
     wd: Vreg,
     a: u64,
-    bases: Bases,
+    board: Board,
     table: &[u8],
     vectors: &[u8],
     work: &[u8],
 ) -> Plan
     requires { ⌜ length (now vectors) ≡ 512 ⌝ }
-    ensures { λ r. ⌜ r ≡ accessed op bases (now (table .entry)) (now (vectors .entry)) (now (work .entry)) wd a ⌝ }
+    ensures { λ r. ⌜ r ≡ accessed op df board (now (table .entry)) (now (vectors .entry)) (now (work .entry)) wd a ⌝ }
 {
     match op {
-        Memory::Ld => load(wd, a, bases, table, work),
-        Memory::St => store(wd, a, bases, table.len(), work.len(), vectors),
+        Memory::Ld => load(df, wd, a, board, table, work),
+        Memory::St => store(df, wd, a, board, table.len(), work.len(), vectors),
     }
 }

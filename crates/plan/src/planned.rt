@@ -7,10 +7,10 @@ use crate::scaled;
 use crate::vector;
 use isa::Instr;
 use meaning::*;
+use state::board::Board;
 use state::control::Control;
 use state::control::Mark;
 use state::stops::Stop;
-use state::windows::Bases;
 ghost use mathlib.Core.Path.{_≡_};
 ghost use lib.ListN.{length};
 ghost use Rattle.state.specs.Machine.{env, machine};
@@ -93,7 +93,7 @@ fn early_stop(kind: Kind, k: Mark, on: bool) -> Early
 // What an instruction does where neither 15 nor 16 applies.
 fn execute(
     i: Instr,
-    bases: Bases,
+    board: Board,
     table: &[u8],
     vectors: &[u8],
     generals: &[u8],
@@ -101,7 +101,7 @@ fn execute(
     c: Control,
 ) -> Plan
     requires { ⌜ (length (now vectors) ≡ 512) × (length (now generals) ≡ 256) × Formed i ⌝ }
-    ensures { λ r. ⌜ r ≡ executed (env bases (now (table .entry)))
+    ensures { λ r. ⌜ r ≡ executed (env board (now (table .entry)))
         (machine (now (vectors .entry)) (now (generals .entry)) (now (work .entry)) c) i ⌝ }
 {
     match i {
@@ -158,9 +158,10 @@ fn execute(
             rs,
         } => moves::access(
             memory_at(op),
+            df,
             wd,
             address(df, offset, moves::general(generals, rs)),
-            bases,
+            board,
             table,
             vectors,
             work,
@@ -184,7 +185,7 @@ fn execute(
 // What the instruction does in this state.
 pub fn plan_of(
     i: Instr,
-    bases: Bases,
+    board: Board,
     table: &[u8],
     vectors: &[u8],
     generals: &[u8],
@@ -192,12 +193,12 @@ pub fn plan_of(
     c: Control,
 ) -> Plan
     requires { ⌜ (length (now vectors) ≡ 512) × (length (now generals) ≡ 256) × Formed i ⌝ }
-    ensures { λ r. ⌜ r ≡ planOf (env bases (now (table .entry)))
+    ensures { λ r. ⌜ r ≡ planOf (env board (now (table .entry)))
         (machine (now (vectors .entry)) (now (generals .entry)) (now (work .entry)) c) i ⌝ }
 {
     let mark = c.mark;
     match early_stop(kind_of(i), mark, c.on) {
-        Early::Go => execute(i, bases, table, vectors, generals, work, c),
+        Early::Go => execute(i, board, table, vectors, generals, work, c),
         Early::Stops(s) => Plan::Stop(s),
     }
 }

@@ -8,7 +8,7 @@ use Rattle.machine.proofs.act.act.Tie as tie
 conclude-requires : tie.Need-conclude-requires
 conclude-requires c κs =
     let a = c .before .before .before .before .before .before .before .before .before .before .before .args in
-    let e = env (a .bases) (a .table .now) in
+    let e = env (a .board) (a .table .now) in
     let m = machine (a .vectors .now) (a .generals .now) (a .work .now) (a .c) in
     rw (c .before .before .before .plan-of .ensures)
     (search needs, search needs, planned-there e m (a .i) (search needs))

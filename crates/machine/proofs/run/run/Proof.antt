@@ -10,7 +10,7 @@ use Rattle.machine.proofs.run.run.Tie as tie
 turns-requires : tie.Need-turns-requires
 turns-requires c κs =
     let a = c .before .before .before .before .before .before .before .before .before .before .before .before .before .before .args in
-    let sized = accepted (a .program .now) (env (a .bases) (a .table .now)) (machine (a .vectors .now) (a .generals .now) (a .work .now) (a .c)) (sym (setup-is (c .before .before .before .before .before .check .ensures)) ∙ c .before .before .before .enum-told .given .1) in
+    let sized = accepted (a .program .now) (env (a .board) (a .table .now)) (machine (a .vectors .now) (a .generals .now) (a .work .now) (a .c)) (sym (setup-is (c .before .before .before .before .before .check .ensures)) ∙ c .before .before .before .enum-told .given .1) in
     (sized .vectors, sized .generals)
 
 returns : tie.Need-returns

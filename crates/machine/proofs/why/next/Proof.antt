@@ -13,7 +13,7 @@ returns c =
     let word = ends .before .before in
     let a = word .before .before .before .before .before .before .args in
     rw (
-      step-ends (a .bases) (a .table .now) (a .vectors .now) (a .generals .now) (a .work .now) (a .c) (a .program .now),
+      step-ends (a .board) (a .table .now) (a .vectors .now) (a .generals .now) (a .work .now) (a .c) (a .program .now),
       ← ends .end-of .ensures,
       ← fetched-is (word .word-at .ensures),
       ← ends .before .word-here .ensures,

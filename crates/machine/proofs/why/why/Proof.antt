@@ -11,7 +11,7 @@ use Rattle.machine.proofs.why.why.Tie as tie
 next-requires : tie.Need-next-requires
 next-requires c κs =
     let a = c .before .before .before .before .before .before .before .before .args in
-    let sized = accepted (a .program .now) (env (a .bases) (a .table .now))
+    let sized = accepted (a .program .now) (env (a .board) (a .table .now))
     (machine (a .vectors .now) (a .generals .now) (a .work .now) (a .c))
     (sym (setup-is (c .before .before .check .ensures)) ∙ c .enum-told .given .1)
     in
