@@ -9,25 +9,22 @@ use lib.Dec.{eqb}
 use lib.ListN.{length}
 use Rattle.isa.specs.declared.Instr.{Instr}
 use Rattle.isa.specs.declared.Memory.{Memory}
-use Rattle.isa.specs.declared.Memory.the-variants.{Ld, St}
 use Rattle.isa.specs.declared.Read.the-variants as read
 use Rattle.isa.specs.declared.Vreg.{Vreg}
-use Rattle.memory.specs.File.{registerAt}
+use Rattle.isa.specs.declared.Width.{Width}
 use Rattle.ops.specs.Meaning.{memoryAt}
 use Rattle.plan.specs.declared.Plan.{Plan}
 use Rattle.plan.specs.declared.Plan.the-variants as plan
 use Rattle.plan.specs.Numbers.{address}
-use Rattle.plan.specs.Plan.{planOf, accessed, loaded, stored, toControl, generalAt, switchedEarly, unless}
-use Rattle.plan.proofs.PlanLaws.{control-cases}
+use Rattle.plan.specs.Plan.{planOf, accessed, toControl, generalAt, switchedEarly, unless}
+use Rattle.plan.proofs.PlanLaws.{control-cases, access-cases}
 use Rattle.state.specs.declared.setup.Setup.the-variants.{Accepted}
 use Rattle.state.specs.declared.stops.Stop.{Stop}
 use Rattle.state.specs.declared.stops.Stop.the-variants.{SwitchedOff, Trap}
-use Rattle.state.specs.declared.windows.Spot.{Spot}
-use Rattle.state.specs.declared.windows.Spot.the-variants.{Table, Work, Outside}
 use Rattle.state.specs.Csr.{masked, arms, arming}
 use Rattle.state.specs.Machine.{Env, Machine}
 use Rattle.state.specs.Setup.{refusal}
-use Rattle.state.specs.Windows.{missing, spotOf}
+use Rattle.state.specs.Windows.{missing}
 use Rattle.state.proofs.Named.{Named, refused, stopped, neither, named, named-stop}
 use Rattle.state.proofs.SetupLaws.{accepted}
 use Rattle.state.proofs.WindowLaws.{spot-outside}
@@ -56,7 +53,7 @@ outcome-is o k h = sym (outcome-back o) ∙ ap (λ n. asOutcome (named n (outcom
 
 module _ (e : Env) (m : Machine) where
   abbrev pub missingFrom : ℕ → ℕ
-  missingFrom a = missing (e .bases) (length (e .table)) (length (m .work)) a
+  missingFrom a = missing (e .board) (length (e .table)) (length (m .work)) a
 
   abbrev pub Carrying : ℕ → Outcome → Type 0
   Carrying a o =
@@ -69,27 +66,16 @@ module _ (e : Env) (m : Machine) where
   finished : (a : ℕ) → Carrying a Finished
   finished a = silent a Finished (λ h. omega arith) (λ h. omega arith)
 
-  abbrev spot : ℕ → Spot
-  spot a = spotOf (e .bases) (length (e .table)) (length (m .work)) a
-
-  found : (a x : ℕ) → spot a ≡ Outside x → x ≡ missingFrom a
-  found a x p = spot-outside (e .bases) (length (e .table)) (length (m .work)) a x p
-
-  loaded-carrying : (a : ℕ) (wd : Vreg) (s : Spot) → spot a ≡ s
-      → Carrying a (outcomeOf (loaded s wd (e .table) (m .work)))
-  loaded-carrying a wd (Table i) p = finished a
-  loaded-carrying a wd (Work i) p = finished a
-  loaded-carrying a wd (Outside x) p = (λ h. found a x p, λ h. absurd (omega arith))
-
-  stored-carrying : (a v : ℕ) (s : Spot) → spot a ≡ s → Carrying a (outcomeOf (stored s a v))
-  stored-carrying a v (Table i) p = (λ h. absurd (omega arith), λ h. refl)
-  stored-carrying a v (Work i) p = finished a
-  stored-carrying a v (Outside x) p = (λ h. found a x p, λ h. absurd (omega arith))
-
-  accessed-carrying : (o : Memory) (wd : Vreg) (a : ℕ)
-      → Carrying a (outcomeOf (accessed o (e .bases) (e .table) (m .vec) (m .work) wd a))
-  accessed-carrying Ld wd a = loaded-carrying a wd (spot a) refl
-  accessed-carrying St wd a = stored-carrying a (registerAt (m .vec) wd) (spot a) refl
+  accessed-carrying : (o : Memory) (df : Width) (wd : Vreg) (a : ℕ)
+      → Carrying a (outcomeOf (accessed o df (e .board) (e .table) (m .vec) (m .work) wd a))
+  accessed-carrying o df wd a =
+      access-cases (λ q. Carrying a (outcomeOf q)) df (e .board) (e .table) (m .vec) (m .work) wd a
+      (λ x. finished a) (λ i v p. finished a) (λ h. absurd (omega arith), λ h. refl)
+      (λ x p. (
+        λ h. spot-outside (e .board) (length (e .table)) (length (m .work)) a x p,
+        λ h. absurd (omega arith),
+      ))
+      o
 
   switched-carrying : (on : Bool) (a : ℕ) (q : Plan) → Carrying a (outcomeOf q)
       → Carrying a (outcomeOf (unless (switchedEarly on) q))
@@ -112,8 +98,8 @@ access-carries p e m ok {f = f} here (at {k = k} {df = df} {wd = wd} {offset = o
     let known : f o a = accessing e m sized k df wd offset rs f (at {wd = wd} q) in
     let says : Carrying e m a (stepOf p e m .outcome) =
     rw (step-plans p e m here)
-    (switched-carrying e m (m .ctl .on) a (accessed o (e .bases) (e .table) (m .vec) (m .work) wd a)
-    (accessed-carrying e m o wd a))
+    (switched-carrying e m (m .ctl .on) a (accessed o df (e .board) (e .table) (m .vec) (m .work) wd a)
+    (accessed-carrying e m o df wd a))
     in
     accesses e m sized k df wd offset rs (λ o a. f o a × (a < 2 ^ 64) × Carrying e m a (stepOf p e m .outcome))
     (known, below e m sized k df wd offset rs, says)

@@ -7,6 +7,7 @@ use native.Mathlib.Nat.{mod-lt}
 use native.Mathlib.Omega.{arith}
 use lib.ListN.{length}
 use lib.Pow.{pow-pos}
+use Rattle.isa.specs.declared.Instr.{Instr}
 use Rattle.isa.specs.declared.Read.{Read}
 use Rattle.isa.specs.declared.Read.the-variants as read
 use Rattle.memory.specs.Value.{value}
@@ -20,6 +21,7 @@ use Rattle.state.specs.declared.fetch.Fetched.{Fetched}
 use Rattle.state.specs.declared.fetch.Fetched.the-variants.{Word, NoWord}
 use Rattle.state.specs.Fetch.{fetched}
 use Rattle.state.specs.Machine.{Env, Machine}
+use Rattle.words.specs.Formed.{Formed}
 use Rattle.words.proofs.Answers.{read-formed}
 use Rattle.machine.specs.declared.step.Outcome.the-variants.{Finished}
 use Rattle.machine.specs.Effect.{applied}
@@ -29,21 +31,26 @@ use Rattle.demands.proofs.ReadLow.{read-low}
 
 pub finished-step : FinishedStep
 unfolding stepOf
-finished-step p e m done = by-word (fetched p (e .bases .program) (m .ctl .pc)) refl done
+finished-step p e m done = by-word (fetched p (e .board .program) (m .ctl .pc)) refl done
   where
-    by-reading : (w : ℕ) (r : Read) → fetched p (e .bases .program) (m .ctl .pc) ≡ Word w → readOf w ≡ r → decided r e m .outcome ≡ Finished → Meant p e m
+    by-reading : (w : ℕ) (r : Read) → fetched p (e .board .program) (m .ctl .pc) ≡ Word w → readOf w ≡ r
+        → decided r e m .outcome ≡ Finished → Meant p e m
     by-reading w (read.Not u) f g o = let z : _≡_ {A = ℕ} 0 1 = cc in absurd (omega arith)
     by-reading w (read.Instr i) f g o = record { word = w; instruction = i; there = f; reads = g; finishes = o; after = rw (f, g) }
 
-    by-word : (f : Fetched) → fetched p (e .bases .program) (m .ctl .pc) ≡ f → attempted f e m .outcome ≡ Finished → Meant p e m
+    by-word : (f : Fetched) → fetched p (e .board .program) (m .ctl .pc) ≡ f → attempted f e m .outcome ≡ Finished
+        → Meant p e m
     by-word (Word w) f o = by-reading w (readOf w) f refl o
     by-word NoWord f o = let z : _≡_ {A = ℕ} 0 1 = cc in absurd (omega arith)
 
+-- what a word reads as is formed
+pub formed : (w : ℕ) (i : Instr) → readOf w ≡ read.Instr i → Formed i
+formed w i h = read-formed (w % 2 ^ 32) i (mod-lt w (pow-pos 32)) (read-low w ∙ h)
+
 -- what the plan of a finished step names is there
-pub meant-there : (p : List ℕ) (e : Env) (m : Machine) (s : Meant p e m) → There (e .bases .work) (length (m .work)) (planOf e m (s .instruction))
-meant-there p e m s =
-    planned-there e m (s .instruction)
-    (read-formed (s .word % 2 ^ 32) (s .instruction) (mod-lt (s .word) (pow-pos 32)) (read-low (s .word) ∙ s .reads))
+pub meant-there : (p : List ℕ) (e : Env) (m : Machine) (s : Meant p e m)
+    → There (e .board .work) (length (m .work)) (planOf e m (s .instruction))
+meant-there p e m s = planned-there e m (s .instruction) (formed (s .word) (s .instruction) (s .reads))
 
 applied-one : (base : ℕ) (q : Plan) (m : Machine) → There base (length (m .work)) q → OneChange base m (applied base q m)
 applied-one base (plan.Stop s) m h = none refl refl refl
@@ -57,4 +64,4 @@ applied-one base (plan.Branch k) m h = none refl refl refl
 pub changes-one : ChangesOne
 changes-one p e m done =
     let s = finished-step p e m done in
-    rw (s .after) (applied-one (e .bases .work) (planOf e m (s .instruction)) m (meant-there p e m s))
+    rw (s .after) (applied-one (e .board .work) (planOf e m (s .instruction)) m (meant-there p e m s))

@@ -15,12 +15,16 @@ use Rattle.isa.specs.declared.Memory.the-variants.{Ld, St}
 use Rattle.isa.specs.declared.Read.{Read}
 use Rattle.isa.specs.declared.Read.the-variants as read
 use Rattle.isa.specs.declared.Vreg.{Vreg}
-use Rattle.memory.specs.Bytes.{replaced, part, number, bytesOf}
+use Rattle.isa.specs.declared.Width.{Width}
+use Rattle.isa.specs.Widths.{bytes}
+use Rattle.memory.specs.Bytes.{replaced, part, bytesOf}
 use Rattle.memory.specs.File.{registerAt}
 use Rattle.memory.specs.Value.{value}
 use Rattle.memory.proofs.Numbers.{length-bytesOf}
 use Rattle.memory.proofs.Parts.{same-part, length-replaced, replaced-before, replaced-inside, replaced-after}
 use Rattle.ops.specs.Meaning.{memoryAt}
+use Rattle.order.specs.declared.Order.{Order}
+use Rattle.order.specs.Order.{registerIn}
 use Rattle.plan.specs.declared.Plan.{Plan}
 use Rattle.plan.specs.declared.Plan.the-variants as plan
 use Rattle.plan.specs.declared.planned.Early.{Early}
@@ -137,13 +141,13 @@ data Alike (b n : ℕ) (q₁ q₂ : Plan) : Type 0 where
   outside : (x : ℕ) → q₁ ≡ plan.Stop (NoWindow x) → Alike b n q₁ q₂
   same : q₂ ≡ q₁ → InWindow b n q₁ → Alike b n q₁ q₂
 
-module _ (table : List ℕ) (pb tb b₁ b₂ : ℕ) (v g : List ℕ) (c : Control)
+module _ (order : Order) (table : List ℕ) (pb tb b₁ b₂ : ℕ) (v g : List ℕ) (c : Control)
     (w₁ w₂ : List ℕ) (holds : Holds b₁ w₁ b₂ w₂) where
   abbrev e₁ : Env
-  e₁ = placedEnv pb tb b₁ table
+  e₁ = placedEnv order pb tb b₁ table
 
   abbrev e₂ : Env
-  e₂ = placedEnv pb tb b₂ table
+  e₂ = placedEnv order pb tb b₂ table
 
   abbrev m₁ : Machine
   m₁ = machine v g w₁ c
@@ -188,29 +192,30 @@ module _ (table : List ℕ) (pb tb b₁ b₂ : ℕ) (v g : List ℕ) (c : Contro
 
   -- the address a, with what the table and the first work window say of it; y is missing from the first machine where
   -- they say nothing, z from the second
-  load-alike : (a : ℕ) (wd : Vreg) (y z : ℕ) (t f : Found) → placed b₁ (length w₁) a ≡ f
-      → Plans (loaded (orElse y t f) wd table w₁) (loaded (orElse z t (placed b₂ (length w₂) a)) wd table w₂)
-  load-alike a wd y z (At i) f p = same refl tt
-  load-alike a wd y z Nowhere Nowhere p = outside y refl
-  load-alike a wd y z Nowhere (At j) p =
+  load-alike : (df : Width) (a : ℕ) (wd : Vreg) (y z : ℕ) (t f : Found) → placed b₁ (length w₁) a ≡ f
+      → Plans (loaded (orElse y t f) order df wd table w₁)
+      (loaded (orElse z t (placed b₂ (length w₂) a)) order df wd table w₂)
+  load-alike df a wd y z (At i) f p = same refl tt
+  load-alike df a wd y z Nowhere Nowhere p = outside y refl
+  load-alike df a wd y z Nowhere (At j) p =
       let h = placed-fits b₁ (length w₁) a j p in
       rw (at-wider a (h .0) (h .1), h .2)
-      (same (ap (λ s. writes wd (number s)) (wider-part b₁ w₁ b₂ w₂ holds a (h .0) (h .1))) tt)
+      (same (ap (λ s. writes wd (registerIn order (bytes df) s)) (wider-part b₁ w₁ b₂ w₂ holds a (h .0) (h .1))) tt)
 
-  store-alike : (a x y z : ℕ) (t f : Found) → placed b₁ (length w₁) a ≡ f
-      → Plans (stored (orElse y t f) a x) (stored (orElse z t (placed b₂ (length w₂) a)) a x)
-  store-alike a x y z (At i) f p = same refl tt
-  store-alike a x y z Nowhere Nowhere p = outside y refl
-  store-alike a x y z Nowhere (At j) p =
+  store-alike : (df : Width) (a x y z : ℕ) (t f : Found) → placed b₁ (length w₁) a ≡ f
+      → Plans (stored (orElse y t f) order df a x) (stored (orElse z t (placed b₂ (length w₂) a)) order df a x)
+  store-alike df a x y z (At i) f p = same refl tt
+  store-alike df a x y z Nowhere Nowhere p = outside y refl
+  store-alike df a x y z Nowhere (At j) p =
       let h = placed-fits b₁ (length w₁) a j p in
       rw (at-wider a (h .0) (h .1))
       (same refl (h .0, h .1))
 
-  accessed-alike : (o : Memory) (wd : Vreg) (a : ℕ)
-      → Plans (accessed o (e₁ .bases) table v w₁ wd a) (accessed o (e₂ .bases) table v w₂ wd a)
-  accessed-alike Ld wd a = load-alike a wd _ _ (placed tb (length table) a) (placed b₁ (length w₁) a) refl
-  accessed-alike St wd a =
-      store-alike a (registerAt v wd) _ _ (placed tb (length table) a) (placed b₁ (length w₁) a) refl
+  accessed-alike : (o : Memory) (df : Width) (wd : Vreg) (a : ℕ)
+      → Plans (accessed o df (e₁ .board) table v w₁ wd a) (accessed o df (e₂ .board) table v w₂ wd a)
+  accessed-alike Ld df wd a = load-alike df a wd _ _ (placed tb (length table) a) (placed b₁ (length w₁) a) refl
+  accessed-alike St df wd a =
+      store-alike df a (registerAt v wd) _ _ (placed tb (length table) a) (placed b₁ (length w₁) a) refl
 
   executed-alike : (i : Instr) → Plans (executed e₁ m₁ i) (executed e₂ m₂ i)
   executed-alike (instr.Three o df wd ws wt) = same refl tt
@@ -234,7 +239,7 @@ module _ (table : List ℕ) (pb tb b₁ b₂ : ℕ) (v g : List ℕ) (c : Contro
   executed-alike (instr.Fill df wd rs) = same refl tt
   executed-alike (instr.Count o df wd ws) = same refl tt
   executed-alike (instr.Memory o df wd offset rs) =
-      accessed-alike (memoryAt (o .0)) wd (address df offset (generalAt g rs))
+      accessed-alike (memoryAt (o .0)) df wd (address df offset (generalAt g rs))
   executed-alike (instr.Branch o df wt offset) = same refl tt
   executed-alike (instr.BranchV o wt offset) = same refl tt
   executed-alike (instr.Scaled o rd rs rt sa) = same refl tt
@@ -277,12 +282,12 @@ module _ (table : List ℕ) (pb tb b₁ b₂ : ℕ) (v g : List ℕ) (c : Contro
 
 -- a run
 
-module _ (p table : List ℕ) (pb tb b₁ b₂ : ℕ) where
+module _ (order : Order) (p table : List ℕ) (pb tb b₁ b₂ : ℕ) where
   abbrev run₁ : ℕ → List ℕ → List ℕ → List ℕ → Control → Run
-  run₁ n v g w c = runs p (placedEnv pb tb b₁ table) n (machine v g w c)
+  run₁ n v g w c = runs p (placedEnv order pb tb b₁ table) n (machine v g w c)
 
   abbrev run₂ : ℕ → List ℕ → List ℕ → List ℕ → Control → Run
-  run₂ n v g w c = runs p (placedEnv pb tb b₂ table) n (machine v g w c)
+  run₂ n v g w c = runs p (placedEnv order pb tb b₂ table) n (machine v g w c)
 
   -- what the induction gives for budgets k₁ and k₂
   abbrev RunsAlike : ℕ → ℕ → Type 0
@@ -304,7 +309,7 @@ module _ (p table : List ℕ) (pb tb b₁ b₂ : ℕ) where
     second o v′ g′ w₂′ c′ = onward o (machine v′ g′ w₂′ c′) (run₂ k₂ v′ g′ w₂′ c′)
 
     along-alike : (o : Outcome) (v′ g′ : List ℕ) (c′ : Control) (w₁′ w₂′ : List ℕ)
-        → Beside table pb tb b₁ b₂ v g c w₁ w₂ holds w₁′ w₂′
+        → Beside order table pb tb b₁ b₂ v g c w₁ w₂ holds w₁′ w₂′
         → (reasonNumber (first o v′ g′ w₁′ c′ .reason) ≡ 17 → ⊥)
         → (reasonNumber (first o v′ g′ w₁′ c′ .reason) ≡ 20 → ⊥)
         → EndsAlike b₁ (length w₁) b₂ w₂ (first o v′ g′ w₁′ c′) (second o v′ g′ w₂′ c′)
@@ -336,11 +341,11 @@ module _ (p table : List ℕ) (pb tb b₁ b₂ : ℕ) where
           added = beside .rest;
         }
 
-    onward-alike : (s₁ s₂ : Result) → Together table pb tb b₁ b₂ v g c w₁ w₂ holds s₁ s₂
-        → (reasonNumber (go-on s₁ k₁ (placedEnv pb tb b₁ table) .reason) ≡ 17 → ⊥)
-        → (reasonNumber (go-on s₁ k₁ (placedEnv pb tb b₁ table) .reason) ≡ 20 → ⊥)
-        → EndsAlike b₁ (length w₁) b₂ w₂ (go-on s₁ k₁ (placedEnv pb tb b₁ table))
-        (go-on s₂ k₂ (placedEnv pb tb b₂ table))
+    onward-alike : (s₁ s₂ : Result) → Together order table pb tb b₁ b₂ v g c w₁ w₂ holds s₁ s₂
+        → (reasonNumber (go-on s₁ k₁ (placedEnv order pb tb b₁ table) .reason) ≡ 17 → ⊥)
+        → (reasonNumber (go-on s₁ k₁ (placedEnv order pb tb b₁ table) .reason) ≡ 20 → ⊥)
+        → EndsAlike b₁ (length w₁) b₂ w₂ (go-on s₁ k₁ (placedEnv order pb tb b₁ table))
+        (go-on s₂ k₂ (placedEnv order pb tb b₂ table))
     onward-alike s₁ s₂ (apart x h) no17 no20 = absurd (no17 (rw h))
     onward-alike s₁ s₂ (along o v′ g′ c′ w₁′ w₂′ q₁ q₂ beside) no17 no20 =
         rw (q₁, q₂) (along-alike o v′ g′ c′ w₁′ w₂′ beside (rw q₁ at no17) (rw q₁ at no20))
@@ -351,11 +356,12 @@ module _ (p table : List ℕ) (pb tb b₁ b₂ : ℕ) where
   runs-alike (suc k₁) zero h v g c w₁ w₂ holds no17 no20 = absurd (omega arith)
   runs-alike (suc k₁) (suc k₂) h v g c w₁ w₂ holds no17 no20 =
       onward-alike k₁ k₂ (runs-alike k₁ k₂ (omega arith)) v g c w₁ w₂ holds
-      (stepOf p (placedEnv pb tb b₁ table) (machine v g w₁ c)) (stepOf p (placedEnv pb tb b₂ table) (machine v g w₂ c))
-      (step-together table pb tb b₁ b₂ v g c w₁ w₂ holds p) no17 no20
+      (stepOf p (placedEnv order pb tb b₁ table) (machine v g w₁ c))
+      (stepOf p (placedEnv order pb tb b₂ table) (machine v g w₂ c))
+      (step-together order table pb tb b₁ b₂ v g c w₁ w₂ holds p) no17 no20
 
 pub wider : Wider
 unfolding Wider
-wider p table pb tb b₁ b₂ v g c w₁ w₂ n₁ n₂ holds h a₁ a₂ no17 no20 =
+wider order p table pb tb b₁ b₂ v g c w₁ w₂ n₁ n₂ holds h a₁ a₂ no17 no20 =
     rw (a₁, a₂)
-    (runs-alike p table pb tb b₁ b₂ n₁ n₂ h v g c w₁ w₂ holds (rw a₁ at no17) (rw a₁ at no20))
+    (runs-alike order p table pb tb b₁ b₂ n₁ n₂ h v g c w₁ w₂ holds (rw a₁ at no17) (rw a₁ at no20))

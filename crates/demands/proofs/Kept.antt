@@ -14,8 +14,6 @@ use Rattle.isa.specs.declared.Greg.{Greg}
 use Rattle.isa.specs.declared.Instr.{Instr}
 use Rattle.isa.specs.declared.Instr.the-variants as instr
 use Rattle.isa.specs.declared.Memory.{Memory}
-use Rattle.isa.specs.declared.Memory.the-variants.{Ld, St}
-use Rattle.isa.specs.declared.Vreg.{Vreg}
 use Rattle.memory.specs.Bytes.{part, number, replaced, bytesOf}
 use Rattle.memory.specs.File.{registerAt}
 use Rattle.memory.specs.Value.{value}
@@ -30,20 +28,17 @@ use Rattle.plan.specs.declared.Plan.the-variants as plan
 use Rattle.plan.specs.declared.planned.Early.{Early}
 use Rattle.plan.specs.declared.planned.Early.the-variants.{Go, Stops}
 use Rattle.plan.specs.Numbers.{address, target}
-use Rattle.plan.specs.Plan.{planOf, executed, accessed, loaded, stored, generalAt, marked, kindOf, early, unless}
+use Rattle.plan.specs.Plan.{planOf, executed, generalAt, marked, kindOf, early, unless}
 use Rattle.plan.specs.There.{There}
-use Rattle.plan.proofs.PlanLaws.{control-cases}
+use Rattle.plan.proofs.PlanLaws.{control-cases, access-cases}
 use Rattle.plan.specs.Zero.{takenOf, takenVOf}
 use Rattle.state.specs.declared.control.Control.{Control}
 use Rattle.state.specs.declared.control.Mark.{Mark}
 use Rattle.state.specs.declared.control.Mark.the-variants.{Clear, NotTaken, Taken}
 use Rattle.state.specs.declared.setup.Setup.the-variants.{Accepted, Refused}
-use Rattle.state.specs.declared.windows.Spot.{Spot}
-use Rattle.state.specs.declared.windows.Spot.the-variants.{Table, Work, Outside}
 use Rattle.state.specs.Csr.{masked, arms, arming}
 use Rattle.state.specs.Machine.{Env, Machine, machine}
 use Rattle.state.specs.Setup.{Limit, refusal, first, stateBad, targetBad}
-use Rattle.state.specs.Windows.{spotOf}
 use Rattle.state.proofs.SetupLaws.{Sized, accepted}
 use Rattle.state.proofs.TestLaws.{or-left, or-right, not-false}
 use Rattle.machine.specs.Effect.{applied, withGeneral, forwarded, pcAfter}
@@ -134,22 +129,6 @@ module _ (e : Env) (m : Machine) where
   abbrev Kept : Plan → Type 0
   Kept = Within (m .ctl .pc)
 
-  loaded-within : (s : Spot) (wd : Vreg) → Kept (loaded s wd (e .table) (m .work))
-  loaded-within (Table i) wd = tt
-  loaded-within (Work i) wd = tt
-  loaded-within (Outside y) wd = tt
-
-  stored-within : (s : Spot) (a x : ℕ) → Kept (stored s a x)
-  stored-within (Table i) a x = tt
-  stored-within (Work i) a x = tt
-  stored-within (Outside y) a x = tt
-
-  accessed-within : (o : Memory) (wd : Vreg) (a : ℕ)
-      → Kept (accessed o (e .bases) (e .table) (m .vec) (m .work) wd a)
-  accessed-within Ld wd a = loaded-within (spotOf (e .bases) (length (e .table)) (length (m .work)) a) wd
-  accessed-within St wd a =
-      stored-within (spotOf (e .bases) (length (e .table)) (length (m .work)) a) a (registerAt (m .vec) wd)
-
   executed-within : (i : Instr) → Kept (executed e m i)
   executed-within (instr.Three o df wd ws wt) = tt
   executed-within (instr.Indexed o df wd ws rt) = tt
@@ -172,7 +151,8 @@ module _ (e : Env) (m : Machine) where
   executed-within (instr.Fill df wd rs) = tt
   executed-within (instr.Count o df wd ws) = tt
   executed-within (instr.Memory o df wd offset rs) =
-      accessed-within (memoryAt (o .0)) wd (address df offset (generalAt (m .gen) rs))
+      access-cases Kept df (e .board) (e .table) (m .vec) (m .work) wd (address df offset (generalAt (m .gen) rs))
+      (λ x. tt) (λ i v p. tt) tt (λ x p. tt) (memoryAt (o .0))
   executed-within (instr.Branch o df wt offset) = (takenOf (zeroAt (o .0)) df (registerAt (m .vec) wt), offset, refl)
   executed-within (instr.BranchV o wt offset) = (takenVOf (zeroAt (o .0)) (registerAt (m .vec) wt), offset, refl)
   executed-within (instr.Scaled o rd rs rt sa) = tt
@@ -242,8 +222,8 @@ module _ (p : List ℕ) (e : Env) (m : Machine) (ok : refusal p e m ≡ Accepted
         csr = f (s .csr);
       }
 
-  applied-accepted : (q : Plan) → There (e .bases .work) (length (m .work)) q → Within (m .ctl .pc) q
-      → refusal p e (applied (e .bases .work) q m) ≡ Accepted
+  applied-accepted : (q : Plan) → There (e .board .work) (length (m .work)) q → Within (m .ctl .pc) q
+      → refusal p e (applied (e .board .work) q m) ≡ Accepted
   applied-accepted (plan.Stop s) h i = ok
   applied-accepted plan.Nothing h i =
       like _ _ _ _ refl refl refl (forward (m .gen) Clear (m .ctl .csr) refl (λ z. refl) (λ x. x))
@@ -256,7 +236,7 @@ module _ (p : List ℕ) (e : Env) (m : Machine) (ok : refusal p e m ≡ Accepted
       (λ z. refl) (λ x. x))
   applied-accepted (plan.Store a v) h i =
       like _ _ _ _ refl refl
-      (length-replaced (m .work) (a - e .bases .work) (bytesOf 16 (value v))
+      (length-replaced (m .work) (a - e .board .work) (bytesOf 16 (value v))
       (omega (arith, length-bytesOf 16 (value v))))
       (forward (m .gen) Clear (m .ctl .csr) refl (λ z. refl) (λ x. x))
   applied-accepted (plan.Csr x) h i = like _ _ _ _ refl refl refl (forward (m .gen) Clear x refl (λ z. refl) (λ y. i))

@@ -26,6 +26,7 @@ use Rattle.each.proofs.LaneLaws.{eachLane-below, eachLane-element}
 use Rattle.forms.specs.Forms.{threeOf}
 use Rattle.vectors.specs.Register.{element}
 use Rattle.reading.specs.Reading.{readOf}
+use Rattle.plan.specs.declared.Plan.{Plan}
 use Rattle.plan.specs.Plan.{planOf, writes, switchedEarly, unless}
 use Rattle.state.specs.declared.fetch.Fetched.the-variants.{Word}
 use Rattle.state.specs.declared.setup.Setup.the-variants.{Accepted}
@@ -39,14 +40,14 @@ use Rattle.demands.specs.Demand2.{Meant}
 use Rattle.demands.proofs.Demand2.{meant-there}
 
 -- a finished step was not switched off
-by-switch : (wd : Vreg) (x : ℕ) (on : Bool) → outcomeOf (unless (switchedEarly on) (writes wd x)) ≡ Finished
-    → unless (switchedEarly on) (writes wd x) ≡ writes wd x
-by-switch wd x true h = refl
-by-switch wd x false h = let z : _≡_ {A = ℕ} 0 1 = cc in absurd (omega arith)
+pub by-switch : (q : Plan) (on : Bool) → outcomeOf (unless (switchedEarly on) q) ≡ Finished
+    → unless (switchedEarly on) q ≡ q
+by-switch q true h = refl
+by-switch q false h = let z : _≡_ {A = ℕ} 0 1 = cc in absurd (omega arith)
 
 module _ (p : List ℕ) (e : Env) (m : Machine) (w : ℕ) (k : Op) (df : Width) (wd ws wt : Vreg)
     (ok : refusal p e m ≡ Accepted)
-    (there : fetched p (e .bases .program) (m .ctl .pc) ≡ Word w)
+    (there : fetched p (e .board .program) (m .ctl .pc) ≡ Word w)
     (reads : readOf w ≡ read.Instr (instr.Three k df wd ws wt))
     (done : stepOf p e m .outcome ≡ Finished) where
   abbrev instruction : Instr
@@ -58,7 +59,7 @@ module _ (p : List ℕ) (e : Env) (m : Machine) (w : ℕ) (k : Op) (df : Width) 
   abbrev made : ℕ
   made = threeOf (threeAt (k .0)) (bits df) (old wd) (old ws) (old wt)
 
-  step-is : stepOf p e m ≡ concluded (e .bases .work) (planOf e m instruction) m
+  step-is : stepOf p e m ≡ concluded (e .board .work) (planOf e m instruction) m
   unfolding stepOf
   step-is = rw (there, reads)
 
@@ -75,7 +76,7 @@ module _ (p : List ℕ) (e : Env) (m : Machine) (w : ℕ) (k : Op) (df : Width) 
 
   planned : planOf e m instruction ≡ writes wd made
   unfolding planOf
-  planned = by-switch wd made (m .ctl .on) (meant .finishes)
+  planned = by-switch (writes wd made) (m .ctl .on) (meant .finishes)
 
   pub register-after : made < 2 ^ 128 → registerAt (stepOf p e m .after .vec) wd ≡ made
   register-after h =

@@ -1,5 +1,6 @@
 pub mod Addresses
 pub mod Answers
+pub mod Before
 pub mod ByZero
 pub mod Carried
 pub mod CsrBits
@@ -13,6 +14,7 @@ pub mod Limits
 pub mod Little
 pub mod Missing
 pub mod OneAnswer
+pub mod Order
 pub mod ReadLow
 pub mod Reasons
 pub mod Reflects

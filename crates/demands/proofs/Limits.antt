@@ -41,10 +41,10 @@ window : (base n : ℕ) → Reflects (windowBad base n) (Window base n)
 window base n = or-reflects _ _ (lt-reflects 1048576 n) (lt-reflects (2 ^ 64) (base + n))
 
 windows : (e : Env) (m : Machine)
-    → Reflects (windowBad (e .bases .table) (length (e .table)) || windowBad (e .bases .work) (length (m .work)))
-    (Window (e .bases .table) (length (e .table)) ⊎ Window (e .bases .work) (length (m .work)))
+    → Reflects (windowBad (e .board .table) (length (e .table)) || windowBad (e .board .work) (length (m .work)))
+    (Window (e .board .table) (length (e .table)) ⊎ Window (e .board .work) (length (m .work)))
 windows e m =
-    or-reflects _ _ (window (e .bases .table) (length (e .table))) (window (e .bases .work) (length (m .work)))
+    or-reflects _ _ (window (e .board .table) (length (e .table))) (window (e .board .work) (length (m .work)))
 
 -- windows of n bytes from a and of k bytes from b that begin before each other's end: the later beginning is in both
 meet : (a n b k : ℕ) → Not (n ≡ 0) × Not (k ≡ 0) × (b < a + n) × (a < b + k) → Some (λ x. Inside a n x × Inside b k x)
@@ -68,8 +68,8 @@ shared a n b k =
     (lt-reflects a (b + k)))
 
 meets : (e : Env) (m : Machine)
-    → Reflects (shares (e .bases .table) (length (e .table)) (e .bases .work) (length (m .work))) (Shared e m)
-meets e m = shared (e .bases .table) (length (e .table)) (e .bases .work) (length (m .work))
+    → Reflects (shares (e .board .table) (length (e .table)) (e .board .work) (length (m .work))) (Shared e m)
+meets e m = shared (e .board .table) (length (e .table)) (e .board .work) (length (m .work))
 
 -- the target of a mark set and taken
 taken : (k : Mark) → Reflects (targetBad k) (Some (λ t. (k ≡ Taken t) × Not (t % 4 ≡ 0)))
@@ -108,7 +108,7 @@ pub limits-first : (p : List ℕ) (e : Env) (m : Machine) (rows : List Row) (n :
 unfolding refusal first
 limits-first p e m rows n f =
     row-first _ (registers m) refusals.Registers _ _ n
-    (λ a. row-first _ (program (e .bases .program) (length p)) refusals.Program _ _ n
+    (λ a. row-first _ (program (e .board .program) (length p)) refusals.Program _ _ n
     (λ b. row-first _ (windows e m) refusals.WindowSize _ _ n
     (λ c. row-first _ (meets e m) refusals.SharedAddress _ _ n
     (λ d. row-first _ (state (m .gen) (m .ctl)) refusals.State Accepted _ n (λ g. f (rw (a, b, c, d, g)))))))

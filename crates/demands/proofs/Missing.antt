@@ -108,25 +108,25 @@ module _ (e : Env) (m : Machine) where
   missing-is a l t w = go (liesIn tb tn a) (liesIn wb wn a) refl refl
     where
       tb : ℕ
-      tb = e .bases .table
+      tb = e .board .table
 
       tn : ℕ
       tn = length (e .table)
 
       wb : ℕ
-      wb = e .bases .work
+      wb = e .board .work
 
       wn : ℕ
       wn = length (m .work)
 
       go : (x y : Bool) → liesIn tb tn a ≡ x → liesIn wb wn a ≡ y → Missing e m a (missingFrom e m a)
       go true y h k =
-          rw (missing-table (e .bases) tn wn a h) (table (inside tb tn a .yes h) (first-outside tb tn 16 a l t))
+          rw (missing-table (e .board) tn wn a h) (table (inside tb tn a .yes h) (first-outside tb tn 16 a l t))
       go false true h k =
-          rw (missing-other (e .bases) tn wn a h) (work (inside wb wn a .yes k) (first-outside wb wn 16 a l w))
+          rw (missing-other (e .board) tn wn a h) (work (inside wb wn a .yes k) (first-outside wb wn 16 a l w))
       go false false h k =
           nowhere (inside tb tn a .no h) (inside wb wn a .no k)
-          (missing-other (e .bases) tn wn a h ∙ outside-here wb wn a 16 k)
+          (missing-other (e .board) tn wn a h ∙ outside-here wb wn a 16 k)
 
 -- ---- one address
 

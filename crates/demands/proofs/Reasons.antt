@@ -42,7 +42,7 @@ use Rattle.state.specs.Machine.{Env, Machine}
 use Rattle.state.specs.Windows.{placed, orElse}
 use Rattle.state.proofs.SetupLaws.{Sized, accepted}
 use Rattle.machine.specs.Numbers.{outcomeNumber}
-use Rattle.machine.specs.Step.{stepOf, outcomeOf, attempted, decided}
+use Rattle.machine.specs.Step.{Result, stepOf, outcomeOf, concluded, attempted, decided}
 use Rattle.machine.specs.Why.{wordHere}
 use Rattle.demands.specs.AtCounter.{IsBranch, format, whole, IgnoresSwitch, scaled, general, elementBytes}
 use Rattle.demands.specs.AtCounter.{addressFrom, Accesses, at, SetsCsr, to, InTable, InWork, Arms}
@@ -135,11 +135,11 @@ module _ (e : Env) (m : Machine) (sized : Sized e m) where
   abbrev holdsAll : ℕ → ℕ → ℕ → Bool
   holdsAll base len a = leb base a && leb (a + 16) (base + len)
 
-  in-table : (a : ℕ) → a < 2 ^ 64 → Reflects (holdsAll (e .bases .table) (length (e .table)) a) (InTable e a)
-  in-table a h = all-inside (e .bases .table) (length (e .table)) a (sized .table-small) (sized .table) h
+  in-table : (a : ℕ) → a < 2 ^ 64 → Reflects (holdsAll (e .board .table) (length (e .table)) a) (InTable e a)
+  in-table a h = all-inside (e .board .table) (length (e .table)) a (sized .table-small) (sized .table) h
 
-  in-work : (a : ℕ) → a < 2 ^ 64 → Reflects (holdsAll (e .bases .work) (length (m .work)) a) (InWork e m a)
-  in-work a h = all-inside (e .bases .work) (length (m .work)) a (sized .work-small) (sized .work) h
+  in-work : (a : ℕ) → a < 2 ^ 64 → Reflects (holdsAll (e .board .work) (length (m .work)) a) (InWork e m a)
+  in-work a h = all-inside (e .board .work) (length (m .work)) a (sized .work-small) (sized .work) h
 
   module _ (k : Op) (df : Width) (wd : Vreg) (offset : ℕ) (rs : Greg) where
     abbrev a : ℕ
@@ -149,8 +149,8 @@ module _ (e : Env) (m : Machine) (sized : Sized e m) where
     access = instr.Memory k df wd offset rs
 
     -- the address, by either definition
-    same : addressFrom (general m rs) offset (elementBytes df) ≡ a
-    same = ap (λ x. addressFrom x offset (elementBytes df)) (general-at m rs)
+    pub same-address : addressFrom (general m rs) offset (elementBytes df) ≡ a
+    same-address = ap (λ x. addressFrom x offset (elementBytes df)) (general-at m rs)
         ∙ sym (address-from df offset (generalAt (m .gen) rs))
 
     pub below : a < 2 ^ 64
@@ -159,10 +159,10 @@ module _ (e : Env) (m : Machine) (sized : Sized e m) where
 
     module _ (f : Memory → ℕ → Type 0) where
       pub accesses : f (memoryAt (k .0)) a → Accesses m f access
-      accesses h = at {k = k} {df = df} {offset = offset} {rs = rs} (rw same h)
+      accesses h = at {k = k} {df = df} {offset = offset} {rs = rs} (rw same-address h)
 
       pub accessing : Accesses m f access → f (memoryAt (k .0)) a
-      accessing (at h) = rw same at h
+      accessing (at h) = rw same-address at h
 
     no-csr : Not (SetsCsr m Arms access)
     no-csr h = elim h [ ]
@@ -178,8 +178,8 @@ module _ (e : Env) (m : Machine) (sized : Sized e m) where
         → First (risks access)
         (outcomeNumber
         (outcomeOf (loaded
-        (orElse z (cond t (At (a - e .bases .table)) Nowhere) (cond w (At (a - e .bases .work)) Nowhere)) wd (e .table)
-        (m .work))))
+        (orElse z (cond t (At (a - e .board .table)) Nowhere) (cond w (At (a - e .board .work)) Nowhere))
+        (e .board .order) df wd (e .table) (m .work))))
     load-first p z true w x y = load-passes p (λ h. h .0 (x .yes refl))
     load-first p z false true x y = load-passes p (λ h. h .1 (y .yes refl))
     load-first p z false false x y = given (accesses Nowhere? (x .no refl, y .no refl))
@@ -188,7 +188,8 @@ module _ (e : Env) (m : Machine) (sized : Sized e m) where
         → First (risks access)
         (outcomeNumber
         (outcomeOf (stored
-        (orElse z (cond t (At (a - e .bases .table)) Nowhere) (cond w (At (a - e .bases .work)) Nowhere)) a v)))
+        (orElse z (cond t (At (a - e .board .table)) Nowhere) (cond w (At (a - e .board .work)) Nowhere))
+        (e .board .order) df a v)))
     store-first p v z true w x y =
         passed (λ h. accessing Nowhere? h .0 (x .yes refl)) (given (accesses ReadOnly? (p, x .yes refl)))
     store-first p v z false true x y =
@@ -198,14 +199,14 @@ module _ (e : Env) (m : Machine) (sized : Sized e m) where
 
     access-first : (o : Memory) → memoryAt (k .0) ≡ o
         → First (risks access)
-        (outcomeNumber (outcomeOf (accessed o (e .bases) (e .table) (m .vec) (m .work) wd a)))
+        (outcomeNumber (outcomeOf (accessed o df (e .board) (e .table) (m .vec) (m .work) wd a)))
     unfolding placed
     access-first Ld p =
-        load-first p _ (holdsAll (e .bases .table) (length (e .table)) a)
-        (holdsAll (e .bases .work) (length (m .work)) a) (in-table a below) (in-work a below)
+        load-first p _ (holdsAll (e .board .table) (length (e .table)) a)
+        (holdsAll (e .board .work) (length (m .work)) a) (in-table a below) (in-work a below)
     access-first St p =
-        store-first p (registerAt (m .vec) wd) _ (holdsAll (e .bases .table) (length (e .table)) a)
-        (holdsAll (e .bases .work) (length (m .work)) a) (in-table a below) (in-work a below)
+        store-first p (registerAt (m .vec) wd) _ (holdsAll (e .board .table) (length (e .table)) a)
+        (holdsAll (e .board .work) (length (m .work)) a) (in-table a below) (in-work a below)
 
   -- CTCMSA
   module _ (cd : Creg) (rs : Greg) where
@@ -288,31 +289,31 @@ module _ (p : List ℕ) (e : Env) (m : Machine) where
 
   abbrev stands? : Bool
   stands? =
-      leb (e .bases .program) (m .ctl .pc)
-      && eqb ((m .ctl .pc - e .bases .program) % 4) 0
-      && leb (m .ctl .pc - e .bases .program + 4) (length p)
+      leb (e .board .program) (m .ctl .pc)
+      && eqb ((m .ctl .pc - e .board .program) % 4) 0
+      && leb (m .ctl .pc - e .board .program + 4) (length p)
 
   stands : Reflects stands? (Some (StandsAt p e m))
   stands =
       likewise
       (λ h.
-      let inside : (m .ctl .pc - e .bases .program) / 4 < length p / 4 = omega (arith, h .0 .0, h .1) in
-      let at : m .ctl .pc ≡ e .bases .program + 4 * ((m .ctl .pc - e .bases .program) / 4) =
+      let inside : (m .ctl .pc - e .board .program) / 4 < length p / 4 = omega (arith, h .0 .0, h .1) in
+      let at : m .ctl .pc ≡ e .board .program + 4 * ((m .ctl .pc - e .board .program) / 4) =
       omega (arith, h .0 .0, h .0 .1)
       in
-      record { number = (m .ctl .pc - e .bases .program) / 4; holds = (inside, at) })
+      record { number = (m .ctl .pc - e .board .program) / 4; holds = (inside, at) })
       (λ s. let i = s .holds .0 in let k = s .holds .1 in ((omega arith, omega arith), omega arith))
       (and-reflects _ _
-      (and-reflects _ _ (le-reflects (e .bases .program) (m .ctl .pc))
-      (eq-reflects ((m .ctl .pc - e .bases .program) % 4) 0))
-      (le-reflects (m .ctl .pc - e .bases .program + 4) (length p)))
+      (and-reflects _ _ (le-reflects (e .board .program) (m .ctl .pc))
+      (eq-reflects ((m .ctl .pc - e .board .program) % 4) 0))
+      (le-reflects (m .ctl .pc - e .board .program + 4) (length p)))
 
   abbrev w : ℕ
-  w = number (part p (m .ctl .pc - e .bases .program) 4)
+  w = number (part p (m .ctl .pc - e .board .program) 4)
 
   spelt : (s : Some (StandsAt p e m)) → little p (4 * s .number) 4 ≡ w
   spelt s =
-      let k : 4 * s .number ≡ m .ctl .pc - e .bases .program = omega (arith, s .holds .1) in
+      let k : 4 * s .number ≡ m .ctl .pc - e .board .program = omega (arith, s .holds .1) in
       little-number p (4 * s .number) 4 ∙ ap (λ at. number (part p at 4)) k
 
   reads : Some (StandsAt p e m) → ReadsAs p e m (readOf w)
@@ -320,7 +321,7 @@ module _ (p : List ℕ) (e : Env) (m : Machine) where
 
   -- the word that is fetched
   abbrev pub word : ℕ
-  word = wordHere (fetched p (e .bases .program) (m .ctl .pc))
+  word = wordHere (fetched p (e .board .program) (m .ctl .pc))
 
   pub word-is : Some (StandsAt p e m) → IsWord p e m word
   unfolding fetched
@@ -330,15 +331,19 @@ module _ (p : List ℕ) (e : Env) (m : Machine) where
       go true x = record { number = s .number; holds = (s .holds, sym (spelt s)) }
       go false x = absurd (x .no refl s)
 
-  -- the instruction there decides how the step ends
-  pub step-plans : {i : Instr} → ReadsAs p e m (read.Instr i) → stepOf p e m .outcome ≡ outcomeOf (planOf e m i)
+  -- the instruction there is what the step does, and decides how it ends
+  pub step-concludes : {i : Instr} → ReadsAs p e m (read.Instr i)
+      → stepOf p e m ≡ concluded (e .board .work) (planOf e m i) m
   unfolding stepOf fetched
-  step-plans {i} here = go stands? stands
+  step-concludes {i} here = go stands? stands
     where
       go : (b : Bool) → Reflects b (Some (StandsAt p e m))
-          → attempted (cond b (Word w) NoWord) e m .outcome ≡ outcomeOf (planOf e m i)
-      go true x = ap (λ r. decided r e m .outcome) (one-reading (reads (x .yes refl)) here)
+          → attempted (cond b (Word w) NoWord) e m ≡ concluded (e .board .work) (planOf e m i) m
+      go true x = ap (λ r. decided r e m) (one-reading (reads (x .yes refl)) here)
       go false x = absurd (x .no refl (record { number = here .number; holds = here .holds .0 }))
+
+  pub step-plans : {i : Instr} → ReadsAs p e m (read.Instr i) → stepOf p e m .outcome ≡ outcomeOf (planOf e m i)
+  step-plans here = ap (λ (r : Result). r .outcome) (step-concludes here)
 
   module _ (sized : Sized e m) where
     planned-first : (i : Instr)

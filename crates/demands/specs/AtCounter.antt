@@ -66,10 +66,10 @@ abbrev pub AllInside : ℕ → ℕ → ℕ → Type 0
 AllInside base len a = (k : ℕ) → k < 16 → Inside base len ((a + k) % 2 ^ 64)
 
 abbrev pub InTable : Env → ℕ → Type 0
-InTable e a = AllInside (e .bases .table) (length (e .table)) a
+InTable e a = AllInside (e .board .table) (length (e .table)) a
 
 abbrev pub InWork : Env → Machine → ℕ → Type 0
-InWork e m a = AllInside (e .bases .work) (length (m .work)) a
+InWork e m a = AllInside (e .board .work) (length (m .work)) a
 
 -- bit k of x where the bits outside 0107FFFF are cleared
 abbrev pub Left : ℕ → ℕ → Type 0
@@ -94,7 +94,7 @@ pub data TrapBits (v x : ℕ) : Type 0 where
 
 -- program word i stands at the counter
 abbrev pub StandsAt : List ℕ → Env → Machine → ℕ → Type 0
-StandsAt p e m i = (i < length p / 4) × (m .ctl .pc ≡ e .bases .program + 4 * i)
+StandsAt p e m i = (i < length p / 4) × (m .ctl .pc ≡ e .board .program + 4 * i)
 
 -- the word at the counter reads as r
 abbrev pub ReadsAs : List ℕ → Env → Machine → Read → Type 0

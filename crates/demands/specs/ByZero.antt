@@ -40,7 +40,7 @@ abbrev pub DividesLanes : Type 0
 DividesLanes =
     (o : Division) (df : Width) (wd ws wt : Vreg) (p : List ℕ) (e : Env) (m : Machine) (w : ℕ)
     → refusal p e m ≡ Accepted
-    → fetched p (e .bases .program) (m .ctl .pc) ≡ Word w
+    → fetched p (e .board .program) (m .ctl .pc) ≡ Word w
     → readOf w ≡ read.Instr (dividing o df wd ws wt)
     → stepOf p e m .outcome ≡ Finished
     → (i : ℕ)

@@ -23,10 +23,10 @@ use Rattle.machine.specs.Step.{stepOf, outcomeOf}
 pub record Meant (p : List ℕ) (e : Env) (m : Machine) : Type 0 where
   pub word : ℕ
   pub instruction : Instr
-  pub there : fetched p (e .bases .program) (m .ctl .pc) ≡ Word word
+  pub there : fetched p (e .board .program) (m .ctl .pc) ≡ Word word
   pub reads : readOf word ≡ read.Instr instruction
   pub finishes : outcomeOf (planOf e m instruction) ≡ Finished
-  pub after : stepOf p e m .after ≡ applied (e .bases .work) (planOf e m instruction) m
+  pub after : stepOf p e m .after ≡ applied (e .board .work) (planOf e m instruction) m
 
 abbrev pub FinishedStep : Type 0
 FinishedStep = (p : List ℕ) (e : Env) (m : Machine) → stepOf p e m .outcome ≡ Finished → Meant p e m
@@ -40,4 +40,6 @@ pub data OneChange (base : ℕ) (m m′ : Machine) : Type 0 where
       → m′ .vec ≡ m .vec → m′ .gen ≡ m .gen → m′ .work ≡ replaced (m .work) (a - base) (bytesOf 16 x) → OneChange base m m′
 
 abbrev pub ChangesOne : Type 0
-ChangesOne = (p : List ℕ) (e : Env) (m : Machine) → stepOf p e m .outcome ≡ Finished → OneChange (e .bases .work) m (stepOf p e m .after)
+ChangesOne =
+    (p : List ℕ) (e : Env) (m : Machine) → stepOf p e m .outcome ≡ Finished
+    → OneChange (e .board .work) m (stepOf p e m .after)

@@ -1,10 +1,12 @@
--- Demand 3. Two accepted runs are alike but for a larger budget and a larger work window: the second holds every address of the first, with the
--- same bytes, wherever it begins and however long it is. If the first stopped neither with 17 nor with 20, the second ends alike, and leaves
--- every added byte alone; and both windows are as long as they were.
+-- Demand 3. Two accepted runs are alike but for a larger budget and a larger work window: the second holds every
+-- address of the first, with the same bytes, wherever it begins and however long it is. If the first stopped neither
+-- with 17 nor with 20, the second ends alike, and leaves every added byte alone; and both windows are as long as they
+-- were. That both runs have the same byte order (request 7/12) is asked by the statement's shape: it has one.
 use mathlib.Core.Path.{_≡_}
 use Prim.Native.Nat.{ℕ, _+_, _-_, _≤_, _<_}
 use mathlib.Core.List.{List}
 use lib.ListN.{length, getD}
+use Rattle.order.specs.declared.Order.{Order}
 use Rattle.state.specs.declared.control.Control.{Control}
 use Rattle.state.specs.declared.setup.Setup.the-variants.{Accepted}
 use Rattle.state.specs.Machine.{Env, env, machine}
@@ -32,19 +34,19 @@ pub record EndsAlike (b₁ n b₂ : ℕ) (w₂ : List ℕ) (r₁ r₂ : Run) : T
   pub shared : Holds b₁ (r₁ .after .work) b₂ (r₂ .after .work)
   pub added : Untouched b₁ n b₂ w₂ (r₂ .after .work)
 
-abbrev pub placedEnv : ℕ → ℕ → ℕ → List ℕ → Env
-placedEnv pb tb wb table = env (record { program = pb; table = tb; work = wb }) table
+abbrev pub placedEnv : Order → ℕ → ℕ → ℕ → List ℕ → Env
+placedEnv order pb tb wb table = env (record { program = pb; table = tb; work = wb; order = order }) table
 
--- program, table, registers and controls are the same; the work windows are w₁ from b₁ and w₂ from b₂
+-- program, table, byte order, registers and controls are the same; the work windows are w₁ from b₁ and w₂ from b₂
 unfoldable pub Wider : Type 0
 Wider =
-    (program table : List ℕ) (pb tb b₁ b₂ : ℕ) (v g : List ℕ) (c : Control) (w₁ w₂ : List ℕ) (n₁ n₂ : ℕ)
+    (order : Order) (program table : List ℕ) (pb tb b₁ b₂ : ℕ) (v g : List ℕ) (c : Control) (w₁ w₂ : List ℕ) (n₁ n₂ : ℕ)
     → Holds b₁ w₁ b₂ w₂
     → n₁ ≤ n₂
-    → refusal program (placedEnv pb tb b₁ table) (machine v g w₁ c) ≡ Accepted
-    → refusal program (placedEnv pb tb b₂ table) (machine v g w₂ c) ≡ Accepted
-    → (reasonNumber (wholeRun program (placedEnv pb tb b₁ table) n₁ (machine v g w₁ c) .reason) ≡ 17 → ⊥)
-    → (reasonNumber (wholeRun program (placedEnv pb tb b₁ table) n₁ (machine v g w₁ c) .reason) ≡ 20 → ⊥)
+    → refusal program (placedEnv order pb tb b₁ table) (machine v g w₁ c) ≡ Accepted
+    → refusal program (placedEnv order pb tb b₂ table) (machine v g w₂ c) ≡ Accepted
+    → (reasonNumber (wholeRun program (placedEnv order pb tb b₁ table) n₁ (machine v g w₁ c) .reason) ≡ 17 → ⊥)
+    → (reasonNumber (wholeRun program (placedEnv order pb tb b₁ table) n₁ (machine v g w₁ c) .reason) ≡ 20 → ⊥)
     → EndsAlike b₁ (length w₁) b₂ w₂
-    (wholeRun program (placedEnv pb tb b₁ table) n₁ (machine v g w₁ c))
-    (wholeRun program (placedEnv pb tb b₂ table) n₂ (machine v g w₂ c))
+    (wholeRun program (placedEnv order pb tb b₁ table) n₁ (machine v g w₁ c))
+    (wholeRun program (placedEnv order pb tb b₂ table) n₂ (machine v g w₂ c))

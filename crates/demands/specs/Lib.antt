@@ -1,4 +1,5 @@
 pub mod AtCounter
+pub mod Before
 pub mod ByZero
 pub mod Demand1
 pub mod Demand2
@@ -7,6 +8,7 @@ pub mod Kept
 pub mod Limits
 pub mod Missing
 pub mod OneAnswer
+pub mod Order
 pub mod Reasons
 pub mod Tables
 pub mod Why

@@ -25,7 +25,7 @@ Window base n = (1048576 < n) ⊎ (2 ^ 64 < base + n)
 
 -- there is an address that both windows hold
 abbrev pub Shared : Env → Machine → Type 0
-Shared e m = Some (λ x. Inside (e .bases .table) (length (e .table)) x × Inside (e .bases .work) (length (m .work)) x)
+Shared e m = Some (λ x. Inside (e .board .table) (length (e .table)) x × Inside (e .board .work) (length (m .work)) x)
 
 -- register 0 is not zero, program counter, or the target of a mark set and taken, is no multiple of 4, or MSACSR has a
 -- bit outside 0107FFFF
@@ -39,8 +39,8 @@ State gen c =
 abbrev pub limits : List ℕ → Env → Machine → List Row
 limits p e m =
     row 1 (Registers m)
-    ∷ row 2 (Program (e .bases .program) (length p))
-    ∷ row 3 (Window (e .bases .table) (length (e .table)) ⊎ Window (e .bases .work) (length (m .work)))
+    ∷ row 2 (Program (e .board .program) (length p))
+    ∷ row 3 (Window (e .board .table) (length (e .table)) ⊎ Window (e .board .work) (length (m .work)))
     ∷ row 4 (Shared e m)
     ∷ row 5 (State (m .gen) (m .ctl))
     ∷ []

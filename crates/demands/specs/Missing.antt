@@ -25,15 +25,15 @@ pub record FirstOutside (n base len a x : ℕ) : Type 0 where
   pub before : (k : ℕ) → k < place → Inside base len ((a + k) % 2 ^ 64)
 
 abbrev pub TableHolds : Env → ℕ → Type 0
-TableHolds e a = Inside (e .bases .table) (length (e .table)) a
+TableHolds e a = Inside (e .board .table) (length (e .table)) a
 
 abbrev pub WorkHolds : Env → Machine → ℕ → Type 0
-WorkHolds e m a = Inside (e .bases .work) (length (m .work)) a
+WorkHolds e m a = Inside (e .board .work) (length (m .work)) a
 
 -- the address x is missing from the sixteen of an access that begins at a
 pub data Missing (e : Env) (m : Machine) (a x : ℕ) : Type 0 where
-  table : TableHolds e a → FirstOutside 16 (e .bases .table) (length (e .table)) a x → Missing e m a x
-  work : WorkHolds e m a → FirstOutside 16 (e .bases .work) (length (m .work)) a x → Missing e m a x
+  table : TableHolds e a → FirstOutside 16 (e .board .table) (length (e .table)) a x → Missing e m a x
+  work : WorkHolds e m a → FirstOutside 16 (e .board .work) (length (m .work)) a x → Missing e m a x
   nowhere : Not (TableHolds e a) → Not (WorkHolds e m a) → x ≡ a → Missing e m a x
 
 -- what the number n names where the machine m stopped

@@ -6,22 +6,25 @@ use native.Mathlib.Omega.{arith}
 use Rattle.element.specs.Value.{signed, magnitude, wrap, clamp, sat}
 use Rattle.each.specs.Lanes.{eachLane}
 use Rattle.linear.specs.Sums.{addv, addA, addsA, asub, subsuuS, average}
-use Rattle.memory.specs.Bytes.{number}
+use Rattle.memory.specs.Bytes.{number, bytesOf}
 use Rattle.memory.specs.File.{registerAt}
+use Rattle.memory.specs.Value.{register}
+use Rattle.order.specs.Order.{turned}
 use Rattle.permute.specs.Permute.{chosenByControl, both}
-use Rattle.plan.specs.Numbers.{target, lsa}
+use Rattle.plan.specs.Numbers.{address, target, lsa}
 use Rattle.plan.specs.Plan.{planOf, generalAt}
 use Rattle.plan.specs.Zero.{someZero}
 use Rattle.plan.proofs.NumberLaws.{scaled-sum-on}
 use Rattle.products.specs.Halves.{products, dotp, hsub}
 use Rattle.products.specs.Products.{mulv, quotient, remainder}
 use Rattle.ops.specs.Table.{rowAt}
-use Rattle.ops.specs.Meaning.{zeroAt, scaledAt}
+use Rattle.ops.specs.Meaning.{memoryAt, zeroAt, scaledAt}
 use Rattle.reading.specs.Reading.{placeOf, readOf}
 use Rattle.state.specs.Machine.{Env}
+use Rattle.state.specs.Windows.{placed, liesIn, missing}
 use Rattle.vectors.specs.Register.{element, build, whole}
 use Rattle.writing.specs.Writing.{writeOf}
-use Rattle.sums.specs.Sums.{Agree, names, zeros, sums}
+use Rattle.sums.specs.Sums.{Agree, names, zeros, orders, sums}
 
 -- −2 as a number of 64 bits
 minus-two : wrap 64 (signed 16 0xFFFE) ≡ 2 ^ 64 - 2
@@ -44,6 +47,11 @@ names-agree = (refl, (refl, (refl, (refl, tt))))
 pub zeros-agree : Agree zeros
 unfolding signed wrap quotient remainder eachLane build element
 zeros-agree = (refl, (refl, (refl, (refl, (refl, (refl, (refl, (refl, (refl, (refl, (refl, (refl, tt))))))))))))
+
+pub orders-agree : (a : ℕ) → Agree (orders a)
+unfolding bytesOf turned build element planOf memoryAt generalAt registerAt number address placed missing liesIn
+    register signed wrap
+orders-agree a = (refl, (refl, (refl, (refl, tt))))
 
 pub all-agree : (e : Env) (v g w : List ℕ) (a ws wt : ℕ) → Agree (sums e v g w a ws wt)
 unfolding writeOf readOf placeOf rowAt zeroAt scaledAt signed magnitude wrap clamp sat addA addsA asub subsuuS average

@@ -1,5 +1,5 @@
 -- Document 01's sums marked P, in its order, one list: what the definitions give of an instruction, and what the paper
--- says; and request 1/12's, of division by 0.
+-- says; request 1/12's, of division by 0; and request 7/12's, by Table 3.1.
 use mathlib.Core.Path.{_≡_}
 use mathlib.Core.Bool.{true}
 use mathlib.Core.List.{List, [], _∷_, _++_}
@@ -21,8 +21,13 @@ use Rattle.isa.specs.declared.Read.the-variants as read
 use Rattle.isa.specs.declared.Subtraction.the-variants.{SubsuuS, AsubS}
 use Rattle.isa.specs.declared.Three.the-variants as three
 use Rattle.isa.specs.declared.Vreg.{Vreg}
-use Rattle.isa.specs.declared.Width.the-variants.{B, W}
+use Rattle.isa.specs.declared.Width.the-variants.{B, W, D}
 use Rattle.isa.specs.declared.Written.the-variants.{Word}
+use Rattle.memory.specs.Bytes.{number, bytesOf}
+use Rattle.memory.specs.Value.{register}
+use Rattle.order.specs.declared.Order.{Order}
+use Rattle.order.specs.declared.Order.the-variants.{Little, Big}
+use Rattle.order.specs.Order.{bytesIn}
 use Rattle.ops.specs.Places as place
 use Rattle.ops.specs.Table.{rowAt}
 use Rattle.forms.specs.Forms.{threeOf}
@@ -30,7 +35,7 @@ use Rattle.plan.specs.declared.Plan.the-variants as plan
 use Rattle.plan.specs.Plan.{planOf}
 use Rattle.reading.specs.Reading.{readOf}
 use Rattle.state.specs.declared.control.Mark.the-variants.{Clear, Taken}
-use Rattle.state.specs.Machine.{Env, Machine, machine}
+use Rattle.state.specs.Machine.{Env, env, Machine, machine}
 use Rattle.writing.specs.Writing.{writeOf}
 
 pub record Sum : Type 1 where
@@ -126,6 +131,52 @@ zeros =
     ∷ byteByZero ModU 0x80 0x80
     ∷ byteByZero ModU 0x7F 0x7F
     ∷ byteByZero ModU 0x00 0x00
+    ∷ []
+
+-- ---- byte order
+
+-- the register whose byte b is b
+abbrev counted : ℕ
+counted = 0x0F0E0D0C0B0A09080706050403020100
+
+-- ST.D $w1,0($1) and LD.B $w2,0($1)
+abbrev std : Instr
+std = instr.Memory (op (place.minor 36 0)) D ($w 1) 0 ($ 1)
+
+abbrev ldb : Instr
+ldb = instr.Memory (op (place.minor 32 0)) B ($w 2) 0 ($ 1)
+
+-- a board with a work window at 1000 hex and no table
+abbrev board : Order → Env
+board o = env (record { program = 0; table = 0; work = 0x1000; order = o }) []
+
+-- vector registers of which $w1 is the counted one and the others are 0; general registers with 1000 hex in $1
+abbrev oneCounted : List ℕ
+oneCounted = replicate 16 0 ++ bytesOf 16 counted ++ replicate 480 0
+
+abbrev first : List ℕ
+first = replicate 8 0 ++ bytesOf 8 0x1000 ++ replicate 240 0
+
+-- Table 3.1, by the bytes of each word: Word[0] to Word[3]
+abbrev littleWords : List ℕ
+littleWords = 0 ∷ 1 ∷ 2 ∷ 3 ∷ 4 ∷ 5 ∷ 6 ∷ 7 ∷ 8 ∷ 9 ∷ 10 ∷ 11 ∷ 12 ∷ 13 ∷ 14 ∷ 15 ∷ []
+
+abbrev bigWords : List ℕ
+bigWords = 3 ∷ 2 ∷ 1 ∷ 0 ∷ 7 ∷ 6 ∷ 5 ∷ 4 ∷ 11 ∷ 10 ∷ 9 ∷ 8 ∷ 15 ∷ 14 ∷ 13 ∷ 12 ∷ []
+
+-- the same for doublewords
+abbrev bigDoubles : List ℕ
+bigDoubles = 7 ∷ 6 ∷ 5 ∷ 4 ∷ 3 ∷ 2 ∷ 1 ∷ 0 ∷ 15 ∷ 14 ∷ 13 ∷ 12 ∷ 11 ∷ 10 ∷ 9 ∷ 8 ∷ []
+
+-- what ST.D leaves in the window in big-endian order, and what LD.B then makes of it; a is any address
+abbrev pub orders : ℕ → List Sum
+orders a =
+    sum (bytesIn Little 4 counted) littleWords
+    ∷ sum (bytesIn Big 4 counted) bigWords
+    ∷ sum (planOf (board Big) (at a oneCounted first (replicate 16 0)) std)
+    (plan.Store 0x1000 (register (number bigDoubles)))
+    ∷ sum (planOf (board Big) (at a oneCounted first bigDoubles) ldb)
+    (plan.Vector ($w 2) (register 0x08090A0B0C0D0E0F0001020304050607))
     ∷ []
 
 -- e is any set-up, v, g and w are any registers and work window, a is any address, ws and wt are any registers

@@ -1,0 +1,354 @@
+-- Loads and stores byte by byte, and a load after a store. The machine's own place of a byte is Table 3.1's offset.
+-- Assumes nothing.
+use mathlib.Core.Path.{_≡_, refl, sym, ap, _∙_}
+use mathlib.Core.List.{List}
+use mathlib.Core.Logic.{_⊎_, inl, inr}
+use Prim.Native.Nat.{ℕ, _+_, _-_, _*_, _^_, _≤_, _<_}
+use native.Mathlib.Decide.{decLt}
+use native.Mathlib.Nat.{mod-eq-of-lt}
+use native.Mathlib.Omega.{arith}
+use lib.Arith.{digits-div, digits-mod}
+use lib.ListN.{length, getD}
+use Rattle.isa.specs.declared.Instr.{Instr}
+use Rattle.isa.specs.declared.Instr.the-variants as instr
+use Rattle.isa.specs.declared.Memory.{Memory}
+use Rattle.isa.specs.declared.Memory.the-variants.{Ld, St}
+use Rattle.isa.specs.declared.Vreg.{Vreg}
+use Rattle.isa.specs.declared.Width.{Width}
+use Rattle.isa.specs.declared.Width.the-variants.{B, H, W, D}
+use Rattle.isa.specs.Widths.{bytes}
+use Rattle.memory.specs.Bytes.{part, number, replaced, bytesOf, AreBytes}
+use Rattle.memory.specs.File.{registerAt, withRegister}
+use Rattle.memory.specs.Value.{value, register}
+use Rattle.memory.proofs.Files.{registerAt-below, withRegister-same}
+use Rattle.memory.proofs.Numbers.{length-bytesOf, number-bytesOf, part-bytes}
+use Rattle.memory.proofs.Parts.{getD-part, length-replaced, part-replaced}
+use Rattle.memory.proofs.Parts.{replaced-before, replaced-inside, replaced-after}
+use Rattle.memory.proofs.Values.{value-exact}
+use Rattle.ops.specs.Meaning.{memoryAt}
+use Rattle.order.specs.declared.Order.{Order}
+use Rattle.order.specs.declared.Order.the-variants.{Little, Big}
+use Rattle.order.specs.Order.{place, turned, registerIn}
+use Rattle.order.proofs.ByteLaws.{byte-of, byte-in}
+use Rattle.order.proofs.OrderLaws.{place-within, place-back, turned-below, element-turned, turned-twice}
+use Rattle.vectors.specs.Register.{element}
+use Rattle.plan.specs.declared.Plan.{Plan}
+use Rattle.plan.specs.declared.Plan.the-variants as plan
+use Rattle.plan.specs.Numbers.{address}
+use Rattle.plan.specs.Plan.{planOf, accessed, loaded, stored, writes, generalAt}
+use Rattle.state.specs.declared.setup.Setup.the-variants.{Accepted}
+use Rattle.state.specs.declared.windows.Spot.{Spot}
+use Rattle.state.specs.declared.windows.Spot.the-variants.{Table, Work, Outside}
+use Rattle.state.specs.Machine.{Env, Machine}
+use Rattle.state.specs.Setup.{refusal}
+use Rattle.state.specs.Windows.{spotOf}
+use Rattle.state.proofs.SetupLaws.{accepted}
+use Rattle.state.proofs.WindowLaws.{spot-table, spot-work}
+use Rattle.machine.specs.declared.step.Outcome.the-variants.{Finished}
+use Rattle.machine.specs.Step.{Result, stepOf, outcomeOf, concluded}
+use Rattle.demands.specs.AtCounter.{elementBytes}
+use Rattle.demands.specs.Tables.{Not, Inside}
+use Rattle.demands.specs.Order.{offset, IsByte, byteOf, ByteAt, Access, Done, firstOf, addressOf}
+use Rattle.demands.specs.Order.{LoadsBytes, StoresBytes, GivesBack}
+use Rattle.demands.proofs.Demand2.{formed}
+use Rattle.demands.proofs.Kept.{stays-accepted}
+use Rattle.demands.proofs.Lanes.{by-switch}
+use Rattle.demands.proofs.Reasons.{step-concludes, same-address}
+
+-- ---- places
+
+-- by either definition
+same-bytes : (df : Width) → elementBytes df ≡ bytes df
+same-bytes B = refl
+same-bytes H = refl
+same-bytes W = refl
+same-bytes D = refl
+
+-- the elements of a register
+sixteen : (df : Width) → (m : ℕ) × (bytes df * m ≡ 16)
+sixteen B = (16, refl)
+sixteen H = (8, refl)
+sixteen W = (4, refl)
+sixteen D = (2, refl)
+
+offset-place : (o : Order) (n i j : ℕ) → j < n → offset o n i j ≡ place o n (n * i + j)
+offset-place Little n i j h = refl
+offset-place Big n i j h =
+    let e : n * i + j ≡ i * n + j = omega arith in
+    rw (e, digits-div i h, digits-mod i h) (omega arith)
+
+module _ (o : Order) (df : Width) where
+  abbrev n : ℕ
+  n = bytes df
+
+  within : (b : ℕ) → b < 16 → place o n b < 16
+  within b h = place-within n (sixteen df .0) (sixteen df .1) o b h
+
+  -- byte b of the register for which sixteen bytes s stand
+  byte-loaded : (s : List ℕ) → AreBytes s → (b : ℕ) → b < 16
+      → getD (bytesOf 16 (registerIn o n s)) b 0 ≡ getD s (place o n b) 0
+  byte-loaded s h b k =
+      byte-of 16 (registerIn o n s) b k ∙ element-turned o n (number s) b k ∙ byte-in s h (place o n b)
+
+  -- the byte at the place of b of the sixteen that stand for the register of bytes s
+  byte-stored : (s : List ℕ) → AreBytes s → (b : ℕ) → b < 16
+      → getD (bytesOf 16 (turned o n (number s))) (place o n b) 0 ≡ getD s b 0
+  byte-stored s h b k =
+      byte-of 16 (turned o n (number s)) (place o n b) (within b k)
+      ∙ element-turned o n (number s) (place o n b) (within b k)
+      ∙ ap (element 8 (number s)) (place-back n (sixteen df .0) (sixteen df .1) o b)
+      ∙ byte-in s h b
+
+-- ---- windows
+
+module _ (o : Order) (df : Width) (wd : Vreg) (a base : ℕ) where
+  abbrev size : ℕ
+  size = bytes df
+
+  inside : (w : List ℕ) → base ≤ a → a + 16 ≤ base + length w → (b : ℕ) → b < 16 → Inside base (length w) (a + b)
+  inside w from to b h = (omega arith, omega arith)
+
+  -- where a register was loaded from
+  loaded-byte : (v w : List ℕ) → length v ≡ 512 → wd .0 < 32 → AreBytes w → base ≤ a → a + 16 ≤ base + length w
+      → (i j : ℕ) → IsByte size i j
+      → ByteAt base w (a + offset o size i j)
+      (byteOf (withRegister v wd (value (register (registerIn o size (part w (a - base) 16))))) wd size i j)
+  unfolding withRegister
+  loaded-byte v w long small areBytes from to i j h =
+      let b : ℕ = size * i + j in
+      let x : ℕ = registerIn o size (part w (a - base) 16) in
+      let s : List ℕ = bytesOf 16 (value (register x)) in
+      let at : offset o size i j ≡ place o size b = offset-place o size i j (h .1) in
+      let there : place o size b < 16 = within o df b (h .0) in
+      let k : 16 * wd .0 + b - 16 * wd .0 ≡ b = omega arith in
+      let from-base : a + place o size b - base ≡ a - base + place o size b = omega arith in
+      let kept : byteOf (withRegister v wd (value (register x))) wd size i j ≡ getD w (a - base + place o size b) 0 =
+      replaced-inside v (16 * wd .0) s (omega (arith, length-bytesOf 16 (value (register x)))) (16 * wd .0 + b)
+      (omega arith) (omega (arith, h .0, length-bytesOf 16 (value (register x))))
+      ∙ ap (λ k. getD s k 0) k
+      ∙ ap (λ y. getD (bytesOf 16 y) b 0) (value-exact (turned-below o size (number (part w (a - base) 16))))
+      ∙ byte-loaded o df (part w (a - base) 16) (part-bytes w (a - base) 16 areBytes) b (h .0)
+      ∙ getD-part w (a - base) 16 (place o size b) there
+      in
+      rw (at, from-base, kept) (inside w from to (place o size b) there, refl)
+
+  -- where a register was stored
+  module _ (v w : List ℕ) (from : base ≤ a) (to : a + 16 ≤ base + length w) where
+    abbrev x : ℕ
+    x = turned o size (registerAt v wd)
+
+    abbrev put : List ℕ
+    put = bytesOf 16 (value (register x))
+
+    fits : a - base + length put ≤ length w
+    fits = omega (arith, length-bytesOf 16 (value (register x)))
+
+    abbrev after : List ℕ
+    after = replaced w (a - base) put
+
+    long : length after ≡ length w
+    long = length-replaced w (a - base) put fits
+
+    stored-byte : AreBytes v → (i j : ℕ) → IsByte size i j
+        → ByteAt base after (a + offset o size i j) (byteOf v wd size i j)
+    unfolding registerAt
+    stored-byte areBytes i j h =
+        let b : ℕ = size * i + j in
+        let s : List ℕ = part v (16 * wd .0) 16 in
+        let at : offset o size i j ≡ place o size b = offset-place o size i j (h .1) in
+        let there : place o size b < 16 = within o df b (h .0) in
+        let back : a + place o size b - base - (a - base) ≡ place o size b = omega arith in
+        let kept : getD after (a + place o size b - base) 0 ≡ byteOf v wd size i j =
+        replaced-inside w (a - base) put fits (a + place o size b - base) (omega arith)
+        (omega (arith, length-bytesOf 16 (value (register x))))
+        ∙ ap (λ k. getD put k 0) back
+        ∙ ap (λ y. getD (bytesOf 16 y) (place o size b) 0) (value-exact (turned-below o size (registerAt v wd)))
+        ∙ byte-stored o df s (part-bytes v (16 * wd .0) 16 areBytes) b (h .0)
+        ∙ getD-part v (16 * wd .0) 16 b (h .0)
+        in
+        rw (at, kept) (rw long (inside w from to (place o size b) there), refl)
+
+    stored-others : (y b : ℕ) → Not ((a ≤ y) × (y < a + 16)) → ByteAt base w y b → ByteAt base after y b
+    stored-others y b out h = (rw long (h .0), go (decLt y a) ∙ h .1)
+      where
+        go : Dec (y < a) → getD after (y - base) 0 ≡ getD w (y - base) 0
+        go (yes l) = replaced-before w (a - base) put fits (y - base) (omega (arith, h .0 .0))
+        go (no l) =
+            let past : a + 16 ≤ y = go₂ (decLt y (a + 16)) in
+            replaced-after w (a - base) put fits (y - base) (omega (arith, length-bytesOf 16 (value (register x))))
+          where
+            go₂ : Dec (y < a + 16) → a + 16 ≤ y
+            go₂ (yes k) = absurd (out (omega arith, k))
+            go₂ (no k) = omega arith
+
+-- ---- steps
+
+module _ (o : Memory) (x : Access) (p : List ℕ) (e : Env) (m : Machine) (ok : refusal p e m ≡ Accepted)
+    (d : Done o x p e m) where
+  abbrev start : ℕ
+  start = address (x .df) (x .s10) (generalAt (m .gen) (x .rs))
+
+  abbrev spot : Spot
+  spot = spotOf (e .board) (length (e .table)) (length (m .work)) start
+
+  abbrev done : Plan
+  done = accessed o (x .df) (e .board) (e .table) (m .vec) (m .work) (x .wd) start
+
+  abbrev instruction : Instr
+  instruction = instr.Memory (d .op) (x .df) (x .wd) (x .s10) (x .rs)
+
+  first-is : firstOf x m ≡ start
+  first-is = same-address e m (accepted p e m ok) (d .op) (x .df) (x .wd) (x .s10) (x .rs)
+
+  step-is : stepOf p e m ≡ concluded (e .board .work) (planOf e m instruction) m
+  step-is = step-concludes p e m (d .reads)
+
+  planned : planOf e m instruction ≡ done
+  unfolding planOf
+  planned =
+      by-switch (accessed (memoryAt (d .op .0)) (x .df) (e .board) (e .table) (m .vec) (m .work) (x .wd) start)
+      (m .ctl .on) (sym (ap (λ (r : Result). r .outcome) step-is) ∙ d .finished)
+      ∙ ap (λ o. accessed o (x .df) (e .board) (e .table) (m .vec) (m .work) (x .wd) start) (d .is)
+
+  done-is : stepOf p e m ≡ concluded (e .board .work) done m
+  done-is = step-is ∙ ap (λ q. concluded (e .board .work) q m) planned
+
+  finishes : outcomeOf done ≡ Finished
+  finishes = sym (ap (λ (r : Result). r .outcome) done-is) ∙ d .finished
+
+  register-small : x .wd .0 < 32
+  register-small = formed _ instruction (d .reads .holds .1) .0
+
+-- a load from a window with bytes w from base
+record Came (x : Access) (p : List ℕ) (e : Env) (m : Machine) (a base : ℕ) (w : List ℕ) : Type 0 where
+  from : base ≤ a
+  to : a + 16 ≤ base + length w
+  is : stepOf p e m
+      ≡ concluded (e .board .work)
+      (writes (x .wd) (registerIn (e .board .order) (bytes (x .df)) (part w (a - base) 16))) m
+
+module _ (x : Access) (p : List ℕ) (e : Env) (m : Machine) (ok : refusal p e m ≡ Accepted) (d : Done Ld x p e m) where
+  abbrev at : ℕ
+  at = start Ld x p e m ok d
+
+  abbrev Comes : ℕ → List ℕ → Type 0
+  Comes = Came x p e m at
+
+  came-from : (s : Spot) → spot Ld x p e m ok d ≡ s
+      → outcomeOf (loaded s (e .board .order) (x .df) (x .wd) (e .table) (m .work)) ≡ Finished
+      → stepOf p e m ≡ concluded (e .board .work) (loaded s (e .board .order) (x .df) (x .wd) (e .table) (m .work)) m
+      → Comes (e .board .table) (e .table) ⊎ Comes (e .board .work) (m .work)
+  came-from (Table k) q f r =
+      let h = spot-table (e .board) (length (e .table)) (length (m .work)) at k q in
+      inl (record { from = h .0; to = h .1; is = rw (h .2) at r })
+  came-from (Work k) q f r =
+      let h = spot-work (e .board) (length (e .table)) (length (m .work)) at k q in
+      inr (record { from = h .0; to = h .1; is = rw (h .2) at r })
+  came-from (Outside y) q f r = let z : _≡_ {A = ℕ} 0 1 = cc in absurd (omega arith)
+
+  came : Comes (e .board .table) (e .table) ⊎ Comes (e .board .work) (m .work)
+  came = came-from (spot Ld x p e m ok d) refl (finishes Ld x p e m ok d) (done-is Ld x p e m ok d)
+
+  came-byte : (base : ℕ) (w : List ℕ) → AreBytes w → Comes base w → (i j : ℕ) → IsByte (elementBytes (x .df)) i j
+      → ByteAt base w (addressOf x e m i j) (byteOf (stepOf p e m .after .vec) (x .wd) (elementBytes (x .df)) i j)
+  came-byte base w areBytes c i j h =
+      rw (same-bytes (x .df), first-is Ld x p e m ok d, c .is)
+      (loaded-byte (e .board .order) (x .df) (x .wd) at base (m .vec) w (accepted p e m ok .vectors)
+      (register-small Ld x p e m ok d) areBytes (c .from) (c .to) i j (rw (same-bytes (x .df)) at h))
+
+pub loads-bytes : LoadsBytes
+loads-bytes x p e m ok table work d i j h = go (came x p e m ok d)
+  where
+    go : Comes x p e m ok d (e .board .table) (e .table) ⊎ Comes x p e m ok d (e .board .work) (m .work)
+        → ByteAt (e .board .table) (e .table) (addressOf x e m i j)
+        (byteOf (stepOf p e m .after .vec) (x .wd) (elementBytes (x .df)) i j)
+        ⊎ ByteAt (e .board .work) (m .work) (addressOf x e m i j)
+        (byteOf (stepOf p e m .after .vec) (x .wd) (elementBytes (x .df)) i j)
+    go (inl c) = inl (came-byte x p e m ok d (e .board .table) (e .table) table c i j h)
+    go (inr c) = inr (came-byte x p e m ok d (e .board .work) (m .work) work c i j h)
+
+-- a store at the address a
+record Went (x : Access) (p : List ℕ) (e : Env) (m : Machine) (a : ℕ) : Type 0 where
+  from : e .board .work ≤ a
+  to : a + 16 ≤ e .board .work + length (m .work)
+  found : spotOf (e .board) (length (e .table)) (length (m .work)) a ≡ Work (a - e .board .work)
+  is : stepOf p e m
+      ≡ concluded (e .board .work)
+      (plan.Store a (register (turned (e .board .order) (bytes (x .df)) (registerAt (m .vec) (x .wd))))) m
+
+went : (x : Access) (p : List ℕ) (e : Env) (m : Machine) (ok : refusal p e m ≡ Accepted) (d : Done St x p e m)
+    → Went x p e m (start St x p e m ok d)
+went x p e m ok d = go (spot St x p e m ok d) refl (finishes St x p e m ok d) (done-is St x p e m ok d)
+  where
+    go : (s : Spot) → spot St x p e m ok d ≡ s
+        → outcomeOf (stored s (e .board .order) (x .df) (start St x p e m ok d) (registerAt (m .vec) (x .wd)))
+        ≡ Finished
+        → stepOf p e m
+        ≡ concluded (e .board .work)
+        (stored s (e .board .order) (x .df) (start St x p e m ok d) (registerAt (m .vec) (x .wd))) m
+        → Went x p e m (start St x p e m ok d)
+    go (Table k) q f r = let z : _≡_ {A = ℕ} 0 1 = cc in absurd (omega arith)
+    go (Work k) q f r =
+        let h = spot-work (e .board) (length (e .table)) (length (m .work)) (start St x p e m ok d) k q in
+        record { from = h .0; to = h .1; found = q ∙ ap Work (h .2); is = r }
+    go (Outside y) q f r = let z : _≡_ {A = ℕ} 0 1 = cc in absurd (omega arith)
+
+pub stores-bytes : StoresBytes
+stores-bytes x p e m ok areBytes d =
+    let a : ℕ = start St x p e m ok d in
+    let t : Went x p e m a = went x p e m ok d in
+    rw (t .is)
+    (record {
+      each = λ i j h.
+          rw (same-bytes (x .df), first-is St x p e m ok d)
+          (stored-byte (e .board .order) (x .df) (x .wd) a (e .board .work) (m .vec) (m .work) (t .from) (t .to)
+          areBytes i j (rw (same-bytes (x .df)) at h));
+      others = λ y b out h.
+          stored-others (e .board .order) (x .df) (x .wd) a (e .board .work) (m .vec) (m .work) (t .from) (t .to) y b
+          (rw (first-is St x p e m ok d) at out) h;
+    })
+
+-- ---- a store and then a load
+
+-- sixteen bytes that were stored, and are loaded
+stored-back : (o : Order) (df : Width) (w : List ℕ) (at x : ℕ) → at + 16 ≤ length w → x < 2 ^ 128
+    → registerIn o (bytes df) (part (replaced w at (bytesOf 16 (value (register (turned o (bytes df) x))))) at 16) ≡ x
+stored-back o df w at x fits small =
+    let n : ℕ = bytes df in
+    let t : ℕ = turned o n x in
+    let s : List ℕ = bytesOf 16 t in
+    let long = length-bytesOf 16 t in
+    let kept : part (replaced w at s) at 16 ≡ s =
+    ap (part (replaced w at s) at) (sym long) ∙ part-replaced w at s (omega (arith, long)) in
+    rw (value-exact (turned-below o n x), kept, number-bytesOf 16 t, mod-eq-of-lt (turned-below o n x))
+    (turned-twice o n (sixteen df .0) x (sixteen df .1) ∙ mod-eq-of-lt small)
+
+pub gives-back : GivesBack
+gives-back x y p e m ok areBytes d g same at =
+    let o : Order = e .board .order in
+    let m₁ : Machine = stepOf p e m .after in
+    let ok₁ : refusal p e m₁ ≡ Accepted = stays-accepted p e m ok (d .finished) in
+    let a : ℕ = start St x p e m ok d in
+    let i : ℕ = a - e .board .work in
+    let v : ℕ = registerAt (m .vec) (x .wd) in
+    let t : Went x p e m a = went x p e m ok d in
+    let put : List ℕ = bytesOf 16 (value (register (turned o (bytes (x .df)) v))) in
+    let size = length-bytesOf 16 (value (register (turned o (bytes (x .df)) v))) in
+    let work : m₁ .work ≡ replaced (m .work) i put = ap (λ (r : Result). r .after .work) (t .is) in
+    let long : length (m₁ .work) ≡ length (m .work) =
+    ap length work ∙ length-replaced (m .work) i put (omega (arith, size, t .from, t .to)) in
+    let again : start Ld y p e m₁ ok₁ g ≡ a =
+    sym (first-is Ld y p e m₁ ok₁ g) ∙ sym at ∙ first-is St x p e m ok d in
+    let found : spot Ld y p e m₁ ok₁ g ≡ Work i = rw (again, long) (t .found) in
+    let below : v < 2 ^ 128 =
+    registerAt-below (m .vec) (x .wd) areBytes (accepted p e m ok .vectors) (register-small St x p e m ok d) in
+    let back : registerIn o (bytes (y .df)) (part (m₁ .work) i 16) ≡ v =
+    rw (← same, work) (stored-back o (x .df) (m .work) i v (omega (arith, t .from, t .to)) below) in
+    let ends : stepOf p e m₁ ≡ concluded (e .board .work) (writes (y .wd) v) m₁ =
+    done-is Ld y p e m₁ ok₁ g
+    ∙ ap (λ s. concluded (e .board .work) (loaded s o (y .df) (y .wd) (e .table) (m₁ .work)) m₁) found
+    ∙ ap (λ z. concluded (e .board .work) (writes (y .wd) z) m₁) back in
+    ap (λ (r : Result). registerAt (r .after .vec) (y .wd)) ends
+    ∙ withRegister-same (m₁ .vec) (y .wd) (value (register v)) (accepted p e m₁ ok₁ .vectors)
+    (register-small Ld y p e m₁ ok₁ g)
+    ∙ rw (value-exact below) (mod-eq-of-lt below)
