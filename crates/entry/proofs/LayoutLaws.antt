@@ -1,4 +1,5 @@
--- A block outside the layout is refused with 5, after 1 to 4; and a block that is written reads as it was. Assumes nothing.
+-- A block outside the layout is refused with 5, after 1 to 4; byte 23 names the order; and a block that is written
+-- reads as it was. Assumes nothing.
 use mathlib.Core.Path.{_≡_, refl, ap, _∙_}
 use mathlib.Core.Bool.{Bool, true, false, cond, not, _&&_, _||_}
 use mathlib.Core.List.{List, [], _++_, append-assoc, append-nil}
@@ -9,6 +10,8 @@ use borrow.Author.Tests.{eq-eqb, ne-eqb, leb-false}
 use lib.Dec.{eqb, leb}
 use lib.ListN.{length, take, drop, length-append}
 use lib.Seq.{take-at, drop-at}
+use Rattle.order.specs.declared.Order.{Order}
+use Rattle.order.specs.declared.Order.the-variants.{Little, Big}
 use Rattle.state.specs.declared.control.Control.{Control}
 use Rattle.state.specs.declared.control.Mark.{Mark}
 use Rattle.state.specs.declared.control.Mark.the-variants.{Clear, NotTaken, Taken}
@@ -17,18 +20,20 @@ use Rattle.state.specs.declared.setup.Setup.the-variants.{Accepted, Refused}
 use Rattle.state.specs.Setup.{refusal, first, registersBad, programBad, windowBad, shares, stateBad}
 use Rattle.memory.specs.Bytes.{part, number, bytesOf}
 use Rattle.memory.proofs.Numbers.{length-bytesOf, number-bytesOf}
-use Rattle.entry.specs.Block.{field, broken, byMark, decoded, encoded, markNumber, targetOf, switchNumber}
-use Rattle.entry.proofs.BlockLaws.{mark-small}
-use Rattle.entry.specs.Layout.{inLayout, orFive, OutsideRefused, RoundTrip}
+use Rattle.entry.specs.Block.{field, byte, broken, byMark, decoded, ordered, encoded}
+use Rattle.entry.specs.Block.{markNumber, targetOf, switchNumber, orderNumber}
+use Rattle.entry.specs.Layout.{inLayout, orFive, OutsideRefused, OrderIs, RoundTrip}
+use Rattle.entry.proofs.BlockLaws.{one-byte, mark-small, switch-small}
 
 -- the tests of a block, by their answers
-cases : (l s : Bool) (k : ℕ) (c : ℕ → Control) → (leb k 2 ≡ false → c k ≡ broken) → l && leb k 2 && s ≡ false
-    → cond l (cond s (c k) broken) broken ≡ broken
-cases false s k c f h = refl
-cases true false k c f h = refl
-cases true true k c f h = f (go (leb k 2) h)
+cases : (l s o : Bool) (k : ℕ) (c : ℕ → Control) → (leb k 2 ≡ false → c k ≡ broken) → l && leb k 2 && s && o ≡ false
+    → cond l (cond (s && o) (c k) broken) broken ≡ broken
+cases false s o k c f h = refl
+cases true false o k c f h = refl
+cases true true false k c f h = refl
+cases true true true k c f h = f (go (leb k 2) h)
   where
-    go : (m : Bool) → m && true ≡ false → m ≡ false
+    go : (m : Bool) → m && true && true ≡ false → m ≡ false
     go true e = e
     go false e = refl
 
@@ -40,7 +45,9 @@ no-mark b k h =
 
 outside : (b : List ℕ) → inLayout b ≡ false → decoded b ≡ broken
 unfolding decoded
-outside b h = cases (eqb (length b) 24) (leb (field b 22 2) 1) (field b 20 2) (byMark b) (no-mark b (field b 20 2)) h
+outside b h =
+    cases (eqb (length b) 24) (leb (byte b 22) 1) (leb (byte b 23) 1) (field b 20 2) (byMark b)
+    (no-mark b (field b 20 2)) h
 
 -- the table of limits with its last row broken
 last-broken : (r p s a x y : Bool) → x ≡ true
@@ -63,7 +70,7 @@ broken-bad r = go (not (eqb r 0))
 pub outside-refused : OutsideRefused
 unfolding refusal first
 outside-refused p e v g w b c h =
-    let at = e .bases in
+    let at = e .board in
     let table = length (e .table) in
     let zero = number (part g 0 8) in
     rw (outside b h)
@@ -80,75 +87,117 @@ outside-refused p e v g w b c h =
 field-at : (a s r : List ℕ) (at n : ℕ) → length a ≡ at → length s ≡ n → part (a ++ s ++ r) at n ≡ s
 field-at a s r at n h k = ap (λ l. take n (drop at l)) (append-assoc a s r) ∙ ap (take n) (drop-at a (s ++ r) at h) ∙ take-at s r n k
 
--- a number that its n bytes can hold is read back
-number-back : (n x : ℕ) → x < 2 ^ (8 * n) → number (bytesOf n x) ≡ x
-number-back n x h = number-bytesOf n x ∙ mod-eq-of-lt h
+-- a number that the n bytes behind the bytes a hold is read back
+read-at : (a r : List ℕ) (at n x : ℕ) → length a ≡ at → x < 2 ^ (8 * n) → field (a ++ bytesOf n x ++ r) at n ≡ x
+read-at a r at n x h small =
+    ap number (field-at a (bytesOf n x) r at n h (length-bytesOf n x)) ∙ number-bytesOf n x ∙ mod-eq-of-lt small
 
-module _ (p t x m o : List ℕ) (lp : length p ≡ 8) (lt : length t ≡ 8) (lx : length x ≡ 4) (lm : length m ≡ 2) (lo : length o ≡ 2) where
-  -- five fields side by side
-  abbrev five : List ℕ
-  five = p ++ t ++ x ++ m ++ o
+switch-known : (s : Bool) → leb (switchNumber s) 1 ≡ true
+switch-known true = refl
+switch-known false = refl
 
-  five-length : length five ≡ 24
-  five-length = simp length-append (omega arith)
-
-  at-0 : part five 0 8 ≡ p
-  at-0 = let e : five ≡ [] ++ p ++ (t ++ x ++ m ++ o) = simp append-assoc in ap (λ l. part l 0 8) e ∙ field-at [] p (t ++ x ++ m ++ o) 0 8 refl lp
-
-  at-8 : part five 8 8 ≡ t
-  at-8 = let e : five ≡ p ++ t ++ (x ++ m ++ o) = simp append-assoc in ap (λ l. part l 8 8) e ∙ field-at p t (x ++ m ++ o) 8 8 lp lt
-
-  at-16 : part five 16 4 ≡ x
-  at-16 =
-      let e : five ≡ (p ++ t) ++ x ++ (m ++ o) = simp append-assoc in
-      ap (λ l. part l 16 4) e ∙ field-at (p ++ t) x (m ++ o) 16 4 (simp length-append (omega arith)) lx
-
-  at-20 : part five 20 2 ≡ m
-  at-20 = field-at (p ++ t ++ x) m o 20 2 (simp length-append (omega arith)) lm
-
-  at-22 : part five 22 2 ≡ o
-  at-22 =
-      let e : five ≡ (p ++ t ++ x ++ m) ++ o ++ [] = simp (append-assoc, append-nil) in
-      ap (λ l. part l 22 2) e ∙ field-at (p ++ t ++ x ++ m) o [] 22 2 (simp length-append (omega arith)) lo
-
-switch-small : (o : Bool) → leb (switchNumber o) 1 ≡ true
-switch-small true = refl
-switch-small false = refl
-
-switch-back : (o : Bool) → eqb (switchNumber o) 1 ≡ o
+switch-back : (s : Bool) → eqb (switchNumber s) 1 ≡ s
 switch-back true = refl
 switch-back false = refl
 
-switch-fits : (o : Bool) → switchNumber o < 2 ^ (8 * 2)
-switch-fits true = omega arith
-switch-fits false = omega arith
+order-known : (o : Order) → leb (orderNumber o) 1 ≡ true
+order-known Little = refl
+order-known Big = refl
+
+order-small : (o : Order) → orderNumber o < 2 ^ 8
+order-small Little = omega arith
+order-small Big = omega arith
+
+-- a block whose byte is the number of an order names it
+order-back : (b : List ℕ) (o : Order) → byte b 23 ≡ orderNumber o → ordered b ≡ o
+unfolding ordered
+order-back b Little h = rw h
+order-back b Big h = rw h
+
+pub order-is : OrderIs
+order-is b = (order-back b Little, order-back b Big)
 
 -- bytes whose fields are a block's are read as that block
-assembled : (b : List ℕ) (pc csr : ℕ) (k : Mark) (o : Bool) → length b ≡ 24 → field b 0 8 ≡ pc → field b 8 8 ≡ targetOf k → field b 16 4 ≡ csr
-    → field b 20 2 ≡ markNumber k → field b 22 2 ≡ switchNumber o → decoded b ≡ record { pc = pc; mark = k; csr = csr; on = o }
+assembled : (b : List ℕ) (pc csr : ℕ) (k : Mark) (s : Bool) (o : Order) → length b ≡ 24 → field b 0 8 ≡ pc
+    → field b 8 8 ≡ targetOf k → field b 16 4 ≡ csr → field b 20 2 ≡ markNumber k → byte b 22 ≡ switchNumber s
+    → byte b 23 ≡ orderNumber o → decoded b ≡ record { pc = pc; mark = k; csr = csr; on = s }
 unfolding decoded
-assembled b pc csr Clear o l p t x m s = rw (eq-eqb _ _ l, s, switch-small o, m, switch-back o, p, x)
-assembled b pc csr NotTaken o l p t x m s = rw (eq-eqb _ _ l, s, switch-small o, m, switch-back o, p, x)
-assembled b pc csr (Taken a) o l p t x m s = rw (eq-eqb _ _ l, s, switch-small o, m, switch-back o, p, x, t)
+assembled b pc csr Clear s o l p t x m h e =
+    rw (eq-eqb _ _ l, h, switch-known s, e, order-known o, m, switch-back s, p, x)
+assembled b pc csr NotTaken s o l p t x m h e =
+    rw (eq-eqb _ _ l, h, switch-known s, e, order-known o, m, switch-back s, p, x)
+assembled b pc csr (Taken a) s o l p t x m h e =
+    rw (eq-eqb _ _ l, h, switch-known s, e, order-known o, m, switch-back s, p, x, t)
+
+-- the bytes of a block, field by field
+module _ (o : Order) (c : Control) where
+  abbrev p : List ℕ
+  p = bytesOf 8 (c .pc)
+
+  abbrev t : List ℕ
+  t = bytesOf 8 (targetOf (c .mark))
+
+  abbrev x : List ℕ
+  x = bytesOf 4 (c .csr)
+
+  abbrev m : List ℕ
+  m = bytesOf 2 (markNumber (c .mark))
+
+  abbrev s : List ℕ
+  s = bytesOf 1 (switchNumber (c .on))
+
+  abbrev q : List ℕ
+  q = bytesOf 1 (orderNumber o)
+
+  long : length (encoded o c) ≡ 24
+  unfolding encoded
+  long = simp (length-append, length-bytesOf)
+
+  at-0 : c .pc < 2 ^ 64 → field (encoded o c) 0 8 ≡ c .pc
+  unfolding encoded
+  at-0 h =
+      let e : encoded o c ≡ [] ++ p ++ (t ++ x ++ m ++ s ++ q) = simp append-assoc in
+      ap (λ l. field l 0 8) e ∙ read-at [] (t ++ x ++ m ++ s ++ q) 0 8 (c .pc) refl h
+
+  at-8 : targetOf (c .mark) < 2 ^ 64 → field (encoded o c) 8 8 ≡ targetOf (c .mark)
+  unfolding encoded
+  at-8 h =
+      let e : encoded o c ≡ p ++ t ++ (x ++ m ++ s ++ q) = simp append-assoc in
+      ap (λ l. field l 8 8) e ∙ read-at p (x ++ m ++ s ++ q) 8 8 (targetOf (c .mark)) (simp length-bytesOf) h
+
+  at-16 : c .csr < 2 ^ 32 → field (encoded o c) 16 4 ≡ c .csr
+  unfolding encoded
+  at-16 h =
+      let e : encoded o c ≡ (p ++ t) ++ x ++ (m ++ s ++ q) = simp append-assoc in
+      ap (λ l. field l 16 4) e
+      ∙ read-at (p ++ t) (m ++ s ++ q) 16 4 (c .csr) (simp (length-append, length-bytesOf)) h
+
+  at-20 : field (encoded o c) 20 2 ≡ markNumber (c .mark)
+  unfolding encoded
+  at-20 =
+      let e : encoded o c ≡ (p ++ t ++ x) ++ m ++ (s ++ q) = simp append-assoc in
+      ap (λ l. field l 20 2) e
+      ∙ read-at (p ++ t ++ x) (s ++ q) 20 2 (markNumber (c .mark)) (simp (length-append, length-bytesOf))
+      (mark-small (c .mark))
+
+  at-22 : byte (encoded o c) 22 ≡ switchNumber (c .on)
+  unfolding encoded
+  at-22 =
+      one-byte (encoded o c) 22 (omega (arith, long))
+      ∙ read-at (p ++ t ++ x ++ m) q 22 1 (switchNumber (c .on)) (simp (length-append, length-bytesOf))
+      (switch-small (c .on))
+
+  pub order-written : byte (encoded o c) 23 ≡ orderNumber o
+  unfolding encoded
+  order-written =
+      let e : encoded o c ≡ (p ++ t ++ x ++ m ++ s) ++ q ++ [] = simp (append-assoc, append-nil) in
+      one-byte (encoded o c) 23 (omega (arith, long))
+      ∙ ap (λ l. field l 23 1) e
+      ∙ read-at (p ++ t ++ x ++ m ++ s) [] 23 1 (orderNumber o) (simp (length-append, length-bytesOf)) (order-small o)
 
 pub round-trip : RoundTrip
-unfolding encoded
-round-trip c i =
-    let k = markNumber (c .mark) in
-    let o = switchNumber (c .on) in
-    let p = bytesOf 8 (c .pc) in
-    let t = bytesOf 8 (targetOf (c .mark)) in
-    let x = bytesOf 4 (c .csr) in
-    let m = bytesOf 2 k in
-    let s = bytesOf 2 o in
-    let lp = length-bytesOf 8 (c .pc) in
-    let lt = length-bytesOf 8 (targetOf (c .mark)) in
-    let lx = length-bytesOf 4 (c .csr) in
-    let lm = length-bytesOf 2 k in
-    let ls = length-bytesOf 2 o in
-    assembled (p ++ t ++ x ++ m ++ s) (c .pc) (c .csr) (c .mark) (c .on) (five-length p t x m s lp lt lx lm ls)
-    (ap number (at-0 p t x m s lp lt lx lm ls) ∙ number-back 8 (c .pc) (i .pc))
-    (ap number (at-8 p t x m s lp lt lx lm ls) ∙ number-back 8 (targetOf (c .mark)) (i .target))
-    (ap number (at-16 p t x m s lp lt lx lm ls) ∙ number-back 4 (c .csr) (i .csr))
-    (ap number (at-20 p t x m s lp lt lx lm ls) ∙ number-back 2 k (mark-small (c .mark)))
-    (ap number (at-22 p t x m s lp lt lx lm ls) ∙ number-back 2 o (switch-fits (c .on)))
+round-trip o c i = (
+  assembled (encoded o c) (c .pc) (c .csr) (c .mark) (c .on) o (long o c) (at-0 o c (i .pc)) (at-8 o c (i .target))
+      (at-16 o c (i .csr)) (at-20 o c) (at-22 o c) (order-written o c),
+  order-back (encoded o c) o (order-written o c),
+)

@@ -6,7 +6,8 @@ use Prim.Native.Nat.{ℕ}
 use mathlib.Core.Bool.{cond}
 use mathlib.Core.List.{List}
 use lib.Dec.{eqb, ltb}
-use Rattle.state.specs.declared.windows.Bases.{Bases}
+use Rattle.order.specs.declared.Order.{Order}
+use Rattle.state.specs.declared.board.Board.{Board}
 use Rattle.machine.specs.Numbers.{answerNumber, reasonNumber, answerMissing, reasonMissing}
 use Rattle.machine.specs.Run.{Run}
 use Rattle.machine.specs.Step.{Whole}
@@ -14,8 +15,8 @@ use Rattle.entry.specs.declared.MsaStepped.{MsaStepped}
 use Rattle.entry.specs.declared.MsaEnded.{MsaEnded}
 use Rattle.entry.specs.Block.{written}
 
-abbrev pub bases : ℕ → ℕ → ℕ → Bases
-bases p t w = record { program = p; table = t; work = w }
+abbrev pub board : Order → ℕ → ℕ → ℕ → Board
+board o p t w = record { program = p; table = t; work = w; order = o }
 
 -- `msa_step` for the step s: the answer r, the vector registers v, the general registers g and the work window w after
 -- it, and the bytes of the control block, b before and b′ after

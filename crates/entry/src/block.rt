@@ -1,5 +1,6 @@
-// The control block as 24 bytes, little-endian, no byte spare: program counter (8), target of a taken mark (8), MSACSR (4), slot mark (2),
-// MSA switch (2).
+// The control block as 24 bytes, little-endian, no byte spare: program counter (8), target of a taken mark (8), MSACSR
+// (4), slot mark (2), MSA switch (1), byte order (1).
+use order::Order;
 use state::control::Control;
 use state::control::Mark;
 ghost use mathlib.Core.Path.{_≡_};
@@ -7,7 +8,8 @@ ghost use mathlib.Core.Bool.{cond};
 ghost use Prim.Native.Nat.{_+_, _*_, _^_, _<_, _≤_};
 ghost use lib.ListN.{length};
 ghost use Rattle.memory.specs.Bytes.{part, number};
-ghost use Rattle.entry.specs.Block.{broken, decoded, markNumber, targetOf, switchNumber, encoded, written};
+ghost use Rattle.entry.specs.Block.{broken, decoded, ordered, encoded, written};
+ghost use Rattle.entry.specs.Block.{markNumber, targetOf, switchNumber, orderNumber};
 
 // A block that no set-up accepts: its counter is no multiple of four.
 fn broken_block() -> Control
@@ -46,8 +48,9 @@ pub fn control_of(b: &[u8]) -> Control
     }
     let pc = memory::eight(b, 0);
     let csr = memory::four(b, 16);
-    let switch = two(b, 22);
-    if switch > 1 {
+    let switch = b[22];
+    let order = b[23];
+    if switch > 1 || order > 1 {
         return broken_block();
     }
     let on = switch == 1;
@@ -72,6 +75,20 @@ pub fn control_of(b: &[u8]) -> Control
             on,
         },
         _ => broken_block(),
+    }
+}
+
+// The byte order that the block names.
+pub fn order_of(b: &[u8]) -> Order
+    ensures { λ r. ⌜ r ≡ ordered (now (b .entry)) ⌝ }
+{
+    if b.len() < 24 {
+        return Order::Little;
+    }
+    if b[23] == 1 {
+        Order::Big
+    } else {
+        Order::Little
     }
 }
 
@@ -101,25 +118,37 @@ fn switch_number(on: bool) -> u8
     if on { 1 } else { 0 }
 }
 
-// MSACSR, slot mark and switch side by side: the last eight bytes.
-fn last_eight(c: Control) -> u64
-    ensures { λ r. ⌜ r ≡ c .csr + (markNumber (c .mark) + switchNumber (c .on) * 2 ^ 16) * 2 ^ 32 ⌝ }
+fn order_number(order: Order) -> u8
+    ensures { λ r. ⌜ r ≡ orderNumber order ⌝ }
+{
+    match order {
+        Order::Little => 0,
+        Order::Big => 1,
+    }
+}
+
+// MSACSR, slot mark, switch and order side by side: the last eight bytes.
+fn last_eight(order: Order, c: Control) -> u64
+    ensures { λ r. ⌜ r ≡ c .csr
+        + (markNumber (c .mark) + (switchNumber (c .on) + orderNumber order * 2 ^ 8) * 2 ^ 16) * 2 ^ 32 ⌝ }
 {
     let mark = c.mark;
     let k = mark_number(mark) as u64;
     let on = switch_number(c.on) as u64;
-    c.csr as u64 + (k + on * 65536) * 4294967296
+    let big = order_number(order) as u64;
+    c.csr as u64 + (k + (on + big * 256) * 65536) * 4294967296
 }
 
-// Writes c over a block of its length.
+// Writes c over a block of its length, and keeps the block's order.
 fn write_block(c: Control, b: &mut [u8])
     requires { ⌜ length (now b) ≡ 24 ⌝ }
-    ensures { λ _. ⌜ now (b .exit) ≡ encoded c ⌝ }
+    ensures { λ _. ⌜ now (b .exit) ≡ encoded (ordered (now (b .entry))) c ⌝ }
 {
+    let order = order_of(b);
     let mark = c.mark;
     memory::put_eight(b, 0, c.pc);
     memory::put_eight(b, 8, target_of(mark));
-    memory::put_eight(b, 16, last_eight(c));
+    memory::put_eight(b, 16, last_eight(order, c));
 }
 
 // Writes the block where an instruction was finished.

@@ -3,14 +3,14 @@
 mod block;
 mod numbers;
 
-use state::windows::Bases;
+use state::board::Board;
 ghost use mathlib.Core.Path.{_≡_};
 ghost use Rattle.state.specs.Machine.{env, machine};
 ghost use Rattle.machine.specs.Run.{wholeRun};
 ghost use Rattle.machine.specs.Step.{wholeStep};
 ghost use Rattle.machine.specs.Why.{whyOf};
-ghost use Rattle.entry.specs.Block.{decoded};
-ghost use Rattle.entry.specs.Entry.{bases, StepsTo, RunsTo};
+ghost use Rattle.entry.specs.Block.{decoded, ordered};
+ghost use Rattle.entry.specs.Entry.{board, StepsTo, RunsTo};
 ghost use Rattle.entry.specs.Why.{explained};
 
 // What C gets of a step: 0 where it is finished, else the number of the refusal or of the stop; and with 17 the address
@@ -39,6 +39,19 @@ pub struct MsaWhy {
     pub fact: u64,
 }
 
+// The board of a call: where things begin, and the order that its control block names.
+fn board_of(program: u64, table: u64, work: u64, control: &[u8]) -> Board
+    ensures { λ r. ⌜ r ≡ board (ordered (now (control .entry))) program table work ⌝ }
+{
+    let order = block::order_of(control);
+    Board {
+        program,
+        table,
+        work,
+        order,
+    }
+}
+
 // One step.
 #[no_mangle]
 pub extern "C" fn msa_step(
@@ -52,15 +65,14 @@ pub extern "C" fn msa_step(
     work_base: u64,
     control: &mut [u8],
 ) -> MsaStepped
-    ensures { λ r. ⌜ StepsTo (wholeStep (now (program .entry)) (env (bases «program_base» «table_base» «work_base») (now (table .entry))) (machine (now (vectors .entry)) (now (generals .entry)) (now (work .entry)) (decoded (now (control .entry))))) r (now (vectors .exit)) (now (generals .exit)) (now (work .exit)) (now (control .entry)) (now (control .exit)) ⌝ }
+    ensures { λ r. ⌜ StepsTo (wholeStep (now (program .entry))
+        (env (board (ordered (now (control .entry))) «program_base» «table_base» «work_base») (now (table .entry)))
+        (machine (now (vectors .entry)) (now (generals .entry)) (now (work .entry)) (decoded (now (control .entry)))))
+        r (now (vectors .exit)) (now (generals .exit)) (now (work .exit)) (now (control .entry)) (now (control .exit)) ⌝ }
 {
-    let bases = Bases {
-        program: program_base,
-        table: table_base,
-        work: work_base,
-    };
+    let board = board_of(program_base, table_base, work_base, control);
     let c = block::control_of(control);
-    let a = machine::step::step(bases, program, table, vectors, generals, work, c);
+    let a = machine::step::step(board, program, table, vectors, generals, work, c);
     let answer = a.answer;
     let after = a.control;
     let n = numbers::answer_number(answer);
@@ -85,15 +97,14 @@ pub extern "C" fn msa_run(
     control: &mut [u8],
     budget: u32,
 ) -> MsaEnded
-    ensures { λ r. ⌜ RunsTo (wholeRun (now (program .entry)) (env (bases «program_base» «table_base» «work_base») (now (table .entry))) budget (machine (now (vectors .entry)) (now (generals .entry)) (now (work .entry)) (decoded (now (control .entry))))) r (now (vectors .exit)) (now (generals .exit)) (now (work .exit)) (now (control .entry)) (now (control .exit)) ⌝ }
+    ensures { λ r. ⌜ RunsTo (wholeRun (now (program .entry))
+        (env (board (ordered (now (control .entry))) «program_base» «table_base» «work_base») (now (table .entry))) budget
+        (machine (now (vectors .entry)) (now (generals .entry)) (now (work .entry)) (decoded (now (control .entry)))))
+        r (now (vectors .exit)) (now (generals .exit)) (now (work .exit)) (now (control .entry)) (now (control .exit)) ⌝ }
 {
-    let bases = Bases {
-        program: program_base,
-        table: table_base,
-        work: work_base,
-    };
+    let board = board_of(program_base, table_base, work_base, control);
     let c = block::control_of(control);
-    let end = machine::run::run(bases, program, table, vectors, generals, work, c, budget);
+    let end = machine::run::run(board, program, table, vectors, generals, work, c, budget);
     let reason = end.reason;
     let after = end.control;
     block::settle(0 < end.count, after, control);
@@ -118,17 +129,13 @@ pub extern "C" fn msa_why(
     control: &[u8],
 ) -> MsaWhy
     ensures { λ r. ⌜ r ≡ explained (whyOf (now (program .entry))
-        (env (bases «program_base» «table_base» «work_base») (now (table .entry)))
+        (env (board (ordered (now (control .entry))) «program_base» «table_base» «work_base») (now (table .entry)))
         (machine (now (vectors .entry)) (now (generals .entry)) (now (work .entry))
         (decoded (now (control .entry))))) ⌝ }
 {
-    let bases = Bases {
-        program: program_base,
-        table: table_base,
-        work: work_base,
-    };
+    let board = board_of(program_base, table_base, work_base, control);
     let c = block::control_of(control);
-    let y = machine::why::why(bases, program, table, vectors, generals, work, c);
+    let y = machine::why::why(board, program, table, vectors, generals, work, c);
     let answer = y.answer;
     MsaWhy {
         number: numbers::answer_number(answer) as u16,

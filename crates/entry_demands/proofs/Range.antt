@@ -1,7 +1,7 @@
 -- Every control block has room in the layout's bytes: a field's bytes spell a number that they can hold, and a plan
 -- puts into a block MSACSR's bits that exist, or a target modulo 2^64. Assumes nothing.
 use mathlib.Core.Path.{_≡_, refl}
-use mathlib.Core.Bool.{Bool, true, false, cond}
+use mathlib.Core.Bool.{Bool, true, false, cond, _&&_}
 use mathlib.Core.List.{List}
 use Prim.Native.Nat.{ℕ, _+_, _*_, _^_, _≤_, _<_}
 use native.Mathlib.Omega.{arith}
@@ -24,7 +24,7 @@ use Rattle.state.specs.declared.setup.Setup.the-variants.{Accepted, Refused}
 use Rattle.state.specs.Setup.{refusal}
 use Rattle.machine.specs.Effect.{controlAfter, forwarded, pcAfter}
 use Rattle.machine.specs.Run.{wholeRun}
-use Rattle.entry.specs.Block.{field, broken, block, byMark, decoded, targetOf}
+use Rattle.entry.specs.Block.{field, byte, broken, block, byMark, decoded, targetOf}
 use Rattle.entry.specs.Layout.{InRange}
 use Rattle.demands.specs.Demand1.{none, more}
 use Rattle.demands.proofs.Demand1.{accepted-run, refused-run}
@@ -62,10 +62,11 @@ unfolding decoded
 decoded-in-range b bytes = go (eqb (length b) 24) refl
   where
     go : (t : Bool) → eqb (length b) 24 ≡ t
-        → InRange (cond t (cond (leb (field b 22 2) 1) (byMark b (field b 20 2)) broken) broken)
+        → InRange (cond t (cond (leb (byte b 22) 1 && leb (byte b 23) 1) (byMark b (field b 20 2)) broken) broken)
     go true h =
         let long : length b ≡ 24 = eqb-true (length b) 24 h in
-        cond-in-range (leb (field b 22 2) 1) _ _ (by-mark-in-range b bytes long (field b 20 2)) broken-in-range
+        cond-in-range (leb (byte b 22) 1 && leb (byte b 23) 1) _ _ (by-mark-in-range b bytes long (field b 20 2))
+        broken-in-range
     go false h = broken-in-range
 
 -- steps

@@ -1,13 +1,10 @@
 -- The answers of `msa_why` are those of the definition's call, in the numbers that the C entry makes of them. Assumes
 -- nothing.
 use mathlib.Core.Path.{_≡_, refl, ap, _∙_}
-use mathlib.Core.List.{List}
-use Prim.Native.Nat.{ℕ}
 use native.Mathlib.Omega.{arith}
 use Rattle.isa.specs.declared.Unread.{Unread}
 use Rattle.isa.specs.declared.Unread.the-variants.{Unassigned, LeftOut, Other}
 use Rattle.state.specs.declared.stops.Stop.the-variants as stop
-use Rattle.state.specs.Machine.{Env}
 use Rattle.state.specs.Numbers.{refusalNumber}
 use Rattle.state.specs.Setup.{refusal}
 use Rattle.machine.specs.declared.step.Answer.{Answer}
@@ -21,10 +18,11 @@ use Rattle.entry.specs.declared.MsaWhy.{MsaWhy}
 use Rattle.entry.specs.Why.{answerKind}
 use Rattle.demands.proofs.Answers.{refusal-between}
 use Rattle.demands.proofs.Why.{same-answer, whole-says, fact-missing, ends-likewise}
-use Rattle.entry_demands.specs.Calls.{Lent, machineOf}
+use Rattle.entry_demands.specs.Calls.{Given, Lent, envOf, machineOf}
 use Rattle.entry_demands.specs.Why.{WhyCall, KindIs, nothing, counter, word, switch, address, bits}
 use Rattle.entry_demands.specs.Why.{WhyCalled, Agrees, WhyOfStep, WhyOfRun}
 use Rattle.entry_demands.proofs.GoesOn.{left-machine}
+use Rattle.entry_demands.proofs.Order.{run-keeps-order, same-env}
 
 -- ---- kinds
 
@@ -44,13 +42,17 @@ kind-is (Ran (Stopped (stop.Trap b))) = bits
 -- ---- the call
 
 pub why-called : WhyCalled
-why-called p e x u i =
+why-called g x u i =
+    let p = g .program in
+    let e = envOf g x in
     rw i (record { says = whole-says p e (machineOf x); kind = kind-is (whyOf p e (machineOf x) .answer) })
 
 -- on a machine whose next step answers a
-agrees : (p : List ℕ) (e : Env) (x : Lent) (u : MsaWhy) (a : Answer) → WhyCall p e x u
-    → wholeStep p e (machineOf x) .answer ≡ a → Agrees u (answerNumber a) (answerMissing a)
-agrees p e x u a i h =
+agrees : (g : Given) (x : Lent) (u : MsaWhy) (a : Answer) → WhyCall g x u
+    → wholeStep (g .program) (envOf g x) (machineOf x) .answer ≡ a → Agrees u (answerNumber a) (answerMissing a)
+agrees g x u a i h =
+    let p = g .program in
+    let e = envOf g x in
     let m = machineOf x in
     let answer : whyOf p e m .answer ≡ a = same-answer p e m (refusal p e m) ∙ h in
     rw i
@@ -60,13 +62,16 @@ agrees p e x u a i h =
     })
 
 pub why-of-step : WhyOfStep
-why-of-step p e x y r u i j =
-    rw (i .reason, i .missing) (agrees p e x u (wholeStep p e (machineOf x) .answer) j refl)
+why-of-step g x y r u i j =
+    rw (i .reason, i .missing) (agrees g x u (wholeStep (g .program) (envOf g x) (machineOf x) .answer) j refl)
 
 pub why-of-run : WhyOfRun
-why-of-run p e budget x y r u bytes i h j =
+why-of-run g budget x y r u bytes i h j =
+    let p = g .program in
+    let e = envOf g x in
     let m = machineOf x in
     let alike = ends-likewise p e budget m (λ k. h (i .reason ∙ k)) in
-    let left = ap (λ n. wholeStep p e n .answer) (left-machine p e budget x bytes r y i) in
+    let env = ap (λ f. wholeStep p f (machineOf y) .answer) (same-env g x y (run-keeps-order g budget x y r i)) in
+    let left = ap (λ n. wholeStep p e n .answer) (left-machine g budget x bytes r y i) in
     rw (i .reason, i .missing, ← alike .number, ← alike .missing)
-    (agrees p e y u (wholeStep p e (wholeRun p e budget m .after) .answer) j left)
+    (agrees g y u (wholeStep p e (wholeRun p e budget m .after) .answer) j (env ∙ left))

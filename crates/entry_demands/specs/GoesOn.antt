@@ -3,16 +3,14 @@
 -- missing address, and counts what both count. (A budget is below 2^32, and so is a sum that a call can have; nothing
 -- here needs it.)
 use mathlib.Core.Path.{_≡_}
-use mathlib.Core.List.{List}
 use Prim.Native.Nat.{ℕ, _+_}
 use Rattle.memory.specs.Bytes.{AreBytes}
-use Rattle.state.specs.Machine.{Env}
 use Rattle.entry.specs.declared.MsaEnded.{MsaEnded}
-use Rattle.entry_demands.specs.Calls.{Lent, Call}
+use Rattle.entry_demands.specs.Calls.{Given, Lent, Call}
 
 -- calls from x to y with budget n, on from y to z with budget k, and from x to z′ with both budgets
 abbrev pub GoesOnCalled : Type 0
 GoesOnCalled =
-    (p : List ℕ) (e : Env) (n k : ℕ) (a b c : MsaEnded) (x y z z′ : Lent) → AreBytes (x .control)
-    → Call p e n x a y → a .reason ≡ 20 → Call p e k y b z → Call p e (n + k) x c z′
+    (g : Given) (n k : ℕ) (a b c : MsaEnded) (x y z z′ : Lent) → AreBytes (x .control)
+    → Call g n x a y → a .reason ≡ 20 → Call g k y b z → Call g (n + k) x c z′
     → (c ≡ record { reason = b .reason; count = n + b .count; missing = b .missing }) × (z′ ≡ z)

@@ -1,5 +1,6 @@
 pub mod Answers
 pub mod Calls
 pub mod GoesOn
+pub mod Order
 pub mod Range
 pub mod Why

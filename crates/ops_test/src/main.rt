@@ -12,9 +12,10 @@ use memory::eight;
 use memory::file::write_register;
 use memory::put_eight;
 use memory::sixteen;
+use order::Order;
+use state::board::Board;
 use state::control::Control;
 use state::control::Mark;
-use state::windows::Bases;
 
 fn set_vector(v: &mut [u8], number: u8, r: [u8; 100], at: usize)
     requires { ⌜ (length (now v) ≡ 512) × (at ≤ 84) ⌝ }
@@ -61,10 +62,11 @@ fn finished(answer: Answer) -> bool {
 
 // A step of the word; whether it is finished. No case loads or stores.
 fn steps(word: &[u8], v: &mut [u8], g: &mut [u8]) -> bool {
-    let bases = Bases {
+    let board = Board {
         program: 0,
         table: 0,
         work: 0,
+        order: Order::Little,
     };
     let control = Control {
         pc: 0,
@@ -73,7 +75,7 @@ fn steps(word: &[u8], v: &mut [u8], g: &mut [u8]) -> bool {
         on: true,
     };
     let mut work = [0u8; 1];
-    let answered = step(bases, word, &[0u8; 0], v, g, &mut work, control);
+    let answered = step(board, word, &[0u8; 0], v, g, &mut work, control);
     let answer = answered.answer;
     finished(answer)
 }

@@ -42,7 +42,7 @@ use denote.Triple.Table.{entered, cited}
 use denote.Triple.Walked.{says, Stays, stay-ref, stay-none, stay-none-slice, gave-slice, walkOf, AllGo, goes-none, goes-ref, goes-none-slice, goes-gave-slice, Walks, ends-at, walked, walk-meets}
 use denote.Exit.{yes}
 use Rattle.state.specs.declared.control.Control.{Control}
-use Rattle.state.specs.declared.windows.Bases.{Bases}
+use Rattle.state.specs.declared.board.Board.{Board}
 use Rattle.state.specs.Machine.{env, machine}
 use Rattle.machine.specs.Step.{wholeStep, WholeIs}
 use Rattle.machine.specs.declared.step.Answer.{Answer}
@@ -53,8 +53,8 @@ use Rattle.machine.proofs.step.Answered as R
 use Rattle.machine.proofs.step.Answered.Laws as R′
 use Rattle.state.proofs.control.Control as T
 use Rattle.state.proofs.control.Control.Laws as T′
-use Rattle.state.proofs.windows.Bases as B
-use Rattle.state.proofs.windows.Bases.Laws as B′
+use Rattle.state.proofs.board.Board as B
+use Rattle.state.proofs.board.Board.Laws as B′
 use Rattle.machine.proofs.step.step as by-value
 use Rattle.machine.proofs.step.step.Symbol as by-value-def
 use Rattle.machine.proofs.step.step.Symbol.{name as #machine·step}
@@ -93,7 +93,7 @@ ByValue 𝓤 H A mem run = tripleOf 𝓤 H A by-value.signature (by-value.spec �
 abbrev mach : Control → Val
 mach c = LL.tuple-val T.the-type T′.the-laws (T.the-type .to c)
 
-abbrev machB : Bases → Val
+abbrev machB : Board → Val
 machB d = LL.tuple-val B.the-type B′.the-laws (B.the-type .to d)
 
 abbrev machQ : Answer → Val
@@ -110,7 +110,7 @@ told : (r : Answered) {u : Val} → Is R.the-row r (u ∷ []) → Is Q.the-row (
 told r is = LL.owed R.the-type R′.the-laws r _ is .0
 
 module _ {M : Type 1} (𝓤 : URA M) (H : Heap 𝓤) (A : Atoms 𝓤) (W : Given 𝓤 H A) (at-mem : Memory → SProp 𝓤) (run : Routine → Fun 𝓤)
-    (κ₀ κ₁ κ₂ κ₃ κ₄ κ₅ : Lft) (q₀ q₁ q₂ q₃ q₄ q₅ : Share) (d : Bases) (s₀ s₁ s₂ s₃ s₄ : RefT (List ℕ)) (b o : ℕ) (γ : GName) (h : Control)
+    (κ₀ κ₁ κ₂ κ₃ κ₄ κ₅ : Lft) (q₀ q₁ q₂ q₃ q₄ q₅ : Share) (d : Board) (s₀ s₁ s₂ s₃ s₄ : RefT (List ℕ)) (b o : ℕ) (γ : GName) (h : Control)
     (isB : Is B.the-row d (machB d ∷ [])) (is₀ : Is (ShrSlice (named 0) κ₀ u8) s₀ (v s₀ ∷ [])) (is₁ : Is (ShrSlice (named 1) κ₁ u8) s₁ (v s₁ ∷ []))
     (is₂ : Is (MutSlice (named 2) κ₂ u8) s₂ (v s₂ ∷ [])) (is₃ : Is (MutSlice (named 3) κ₃ u8) s₃ (v s₃ ∷ [])) (is₄ : Is (MutSlice (named 4) κ₄ u8) s₄ (v s₄ ∷ [])) where
   abbrev Rows : List RattleType
@@ -126,10 +126,10 @@ module _ {M : Type 1} (𝓤 : URA M) (H : Heap 𝓤) (A : Atoms 𝓤) (W : Given
   abbrev c₀ : RefT Control
   c₀ = record { ptr = (b, o); name = γ; now = h }
 
-  abbrev x : Bases × (RefT (List ℕ) × (RefT (List ℕ) × (RefT (List ℕ) × (RefT (List ℕ) × (RefT (List ℕ) × (RefT Control × Unit {0}))))))
+  abbrev x : Board × (RefT (List ℕ) × (RefT (List ℕ) × (RefT (List ℕ) × (RefT (List ℕ) × (RefT (List ℕ) × (RefT Control × Unit {0}))))))
   x = (d, (s₀, (s₁, (s₂, (s₃, (s₄, (c₀, tt)))))))
 
-  abbrev args₅ : Bases × (RefT (List ℕ) × (RefT (List ℕ) × (RefT (List ℕ) × (RefT (List ℕ) × (RefT (List ℕ) × (Control × Unit {0}))))))
+  abbrev args₅ : Board × (RefT (List ℕ) × (RefT (List ℕ) × (RefT (List ℕ) × (RefT (List ℕ) × (RefT (List ℕ) × (Control × Unit {0}))))))
   args₅ = (d, (s₀, (s₁, (s₂, (s₃, (s₄, (h, tt)))))))
 
   abbrev Vals : Type 0
@@ -206,7 +206,7 @@ module _ {M : Type 1} (𝓤 : URA M) (H : Heap 𝓤) (A : Atoms 𝓤) (W : Given
         move ! (41 ∷ []) $ split ! $ move ! (1 ∷ []) $ split ! $ move ! (1 ∷ []) $ split ! $ move ! (1 ∷ []) $ split ! $ move ! (1 ∷ []) $ split ! $ move ! (1 ∷ []) $ split ! $
         move ! (7 ∷ 8 ∷ 0 ∷ []) $ opens ! tt T.the-row {h = h} b o (λ vs. spelt ! T.the-row (Is T.the-row) (shows 𝓤 H A T.the-row) (LL.vals T.the-type T′.the-laws) (LL.tells T.the-type T′.the-laws) fullShare h vs b o $
         move ! (1 ∷ []) $ peeks ! T.the-row (Is T.the-row) (shows 𝓤 H A T.the-row) h (LL.vals T.the-type T′.the-laws h) (λ was. move ! (1 ∷ 0 ∷ []) $
-        -- [the block's cell; what the old block owns; the open borrow; obs; auth; true; k₄; k₃; k₂; k₁; k₀; true; work's; generals'; vectors'; table's; program's; bases'; _15; …]: the block is read
+        -- [the block's cell; what the old block owns; the open borrow; obs; auth; true; k₄; k₃; k₂; k₁; k₀; true; work's; generals'; vectors'; table's; program's; board'; _15; …]: the block is read
         use1 W (‵ (fat fullShare T′.mir b o (mach h))) (W .laws .raw-at fullShare T′.mir b o (mach h)) $
         assigns ! (of-opd ! (load ! (from ! (hop ! (look ! 34 refl) (stop !))) (look ! 0 refl))) (from ! (stop !)) (init ! 18 refl (LL.lawful T.the-type T′.the-laws 𝓤 H A W .typed h _ was .0)) $
         use1 W (‵ (cellAt fullShare (T.the-row .mir) (mach h ∷ []) b o)) (W .laws .at-raw fullShare T′.mir b o (mach h)) $
