@@ -103,7 +103,8 @@ static int sound(uint16_t number, const uint8_t samples[SAMPLES], uint32_t budge
     put(generals + 8 * 7, 8, RESULT);
     put(generals + 8 * 9, 8, number);
     put(control + MSA_CONTROL_PC, 8, 0);
-    put(control + MSA_CONTROL_SWITCH, 2, MSA_SWITCH_ON);
+    control[MSA_CONTROL_SWITCH] = MSA_SWITCH_ON;
+    control[MSA_CONTROL_ORDER] = MSA_ORDER_LITTLE; /* the result cell is read so */
 
     struct msa_ended end = msa_run(program, program_bytes, 0, table, sizeof table, TABLE, vectors, sizeof vectors,
                                    generals, sizeof generals, work, sizeof work, WORK, control, sizeof control, budget);

@@ -1,6 +1,6 @@
 /* Replays the shared cases of steps and runs (vectors/FORMAT.md) through the C entry
  * and compares the reason, the count, the missing address and every lent byte; then the
- * control block's own limits, and every way to arm a trap.
+ * control block's own limits, loads and stores in both byte orders, and every way to arm a trap.
  * Usage: replay FILE.. ; ends with status 1 where anything differs.
  *
  * Each case is run in up to three ways: as it stands; with a target that a mark other than 2
@@ -10,8 +10,9 @@
  * fact are compared, and that no lent byte is changed. It is called again on read-only pages, once with a page
  * that nothing may touch behind every slice and once with one before it: there a wrong access ends the program.
  *
- * Cases of rules that the archive does not have are left out and counted: big-endian ones, and those of the
- * fixed-point multiplies. Division by zero is that of the boards: of cases with the other rule some differ.
+ * A case is lent in the byte order that its rules name. Cases of a rule that the archive does not have are left out and
+ * counted: those of the fixed-point multiplies. Division by zero is that of the boards: of cases with the other rule
+ * some differ.
  */
 #define _DEFAULT_SOURCE /* MAP_ANONYMOUS */
 #include <inttypes.h>
@@ -76,22 +77,23 @@ static uint64_t get(const uint8_t *at, unsigned n) {
     return x;
 }
 
-static struct bytes block(uint64_t pc, uint64_t target, uint32_t msacsr, uint16_t mark, uint16_t on) {
+static struct bytes block(uint64_t pc, uint64_t target, uint32_t msacsr, unsigned mark, unsigned on, unsigned order) {
     struct bytes b = lend(MSA_CONTROL_BYTES);
     put(b.at + MSA_CONTROL_PC, 8, pc);
     put(b.at + MSA_CONTROL_TARGET, 8, target);
     put(b.at + MSA_CONTROL_MSACSR, 4, msacsr);
     put(b.at + MSA_CONTROL_MARK, 2, mark);
-    put(b.at + MSA_CONTROL_SWITCH, 2, on);
+    put(b.at + MSA_CONTROL_SWITCH, 1, on);
+    put(b.at + MSA_CONTROL_ORDER, 1, order);
     return b;
 }
 
-static struct bytes block_of(const char *s) {
+static struct bytes block_of(const char *s, unsigned order) {
     uint64_t pc, target;
     unsigned mark, on;
     uint32_t msacsr;
     if (sscanf(s, "%" SCNx64 " %u %" SCNx64 " %" SCNx32 " %u", &pc, &mark, &target, &msacsr, &on) != 5) exit(2);
-    return block(pc, target, msacsr, (uint16_t)mark, (uint16_t)on);
+    return block(pc, target, msacsr, mark, on, order);
 }
 
 /* what is lent, and what must come back */
@@ -109,7 +111,8 @@ struct test {
     int told; /* there are a word and a fact */
     uint32_t word;
     uint64_t fact;
-    unsigned fixed, big; /* rules: of the fixed-point multiplies, of the big-endian board */
+    unsigned fixed, big; /* rules: of the fixed-point multiplies, of the big-endian board (the order's number) */
+    int unfenced; /* msa_why is called on copies alone, where there are many cases */
     struct lent before, after;
 };
 
@@ -246,7 +249,9 @@ static int explained(const struct test *t, const struct lent *l, char how, struc
         want.word = t->word;
         want.fact = t->fact;
     }
-    return explains(t, l, how, 'c', want) & explains(t, l, how, 'e', want) & explains(t, l, how, 'b', want);
+    int fine = explains(t, l, how, 'c', want);
+    if (!t->unfenced) fine &= explains(t, l, how, 'e', want) & explains(t, l, how, 'b', want);
+    return fine;
 }
 
 /* one way of a case: how is 's' step, 'r' run, '1' the step as a run of 1, 'n' the run by steps */
@@ -292,7 +297,7 @@ static int multiplies_fixed(uint32_t word) {
 
 /* whether a case needs a rule that the archive does not have: a step by its word, a run by any word */
 static int left_out(const struct test *t) {
-    if (t->big || !t->fixed) return t->big != 0;
+    if (!t->fixed) return 0;
     if (!t->run) return multiplies_fixed(word_at(t, t->before.control));
     for (size_t i = 0; i + 4 <= t->program.n; i += 4)
         if (multiplies_fixed((uint32_t)get(t->program.at + i, 4))) return 1;
@@ -353,7 +358,7 @@ static void replay(const char *name) {
         case 'p': t.program_base = strtoull(s, &s, 16); t.program = hex(s + 1); break;
         case 't': t.table_base = strtoull(s, &s, 16); t.table = hex(s + 1); break;
         case 'w': t.work_base = strtoull(s, &s, 16); t.before.work = hex(s + 1); break;
-        case 'c': t.before.control = block_of(s); break;
+        case 'c': t.before.control = block_of(s, t.big); break;
         case 'b': t.budget = (uint32_t)strtoul(s, NULL, 10); break;
         case '=':
             t.answer.reason = (uint32_t)strtoul(s, &s, 10);
@@ -368,7 +373,7 @@ static void replay(const char *name) {
         case 'V': t.after.vectors = *s == '=' ? t.before.vectors : hex(s); break;
         case 'G': t.after.generals = *s == '=' ? t.before.generals : hex(s); break;
         case 'W': t.after.work = *s == '=' ? t.before.work : hex(s); break;
-        case 'C': t.after.control = block_of(s); break;
+        case 'C': t.after.control = block_of(s, t.big); break;
         }
     }
     fclose(f);
@@ -376,11 +381,10 @@ static void replay(const char *name) {
     printf("%s: %u of %u cases agree, %u left out\n", base ? base + 1 : name, agree, cases, out);
 }
 
-/* one control block on a set-up that is good but for it: a one-word program, ADDV.W $w5,$w1,$w2 */
-static int block_answers(struct bytes control, uint32_t reason) {
+/* a set-up that is good but for its control block: a one-word program, ADDV.W $w5,$w1,$w2, and its sum after it */
+static struct test adding(void) {
     static uint8_t program[4] = {0x4E, 0x09, 0x42, 0x78};
     struct test t = {.name = "block", .program = {program, 4}, .table = lend(0), .program_base = 0x1000};
-    t.answer.reason = reason;
     t.before.vectors = lend(512);
     t.before.generals = lend(256);
     t.before.work = lend(16);
@@ -388,10 +392,17 @@ static int block_answers(struct bytes control, uint32_t reason) {
     memset(t.before.generals.at, 0, 256);
     t.after = t.before;
     t.after.vectors = copy(t.before.vectors);
-    if (reason == MSA_FINISHED)
-        for (int i = 0; i < 16; i++) t.after.vectors.at[16 * 5 + i] = 2;
+    for (int i = 0; i < 16; i++) t.after.vectors.at[16 * 5 + i] = 2;
+    return t;
+}
+
+/* one control block on it */
+static int block_answers(struct bytes control, uint32_t reason) {
+    struct test t = adding();
+    t.answer.reason = reason;
     struct bytes after = copy(control);
-    if (reason == MSA_FINISHED) {
+    if (reason != MSA_FINISHED) t.after.vectors = t.before.vectors;
+    else {
         int taken = control.at[MSA_CONTROL_MARK] == MSA_MARK_TAKEN;
         if (taken) memcpy(after.at + MSA_CONTROL_PC, control.at + MSA_CONTROL_TARGET, 8);
         else put(after.at + MSA_CONTROL_PC, 8, 0x1004);
@@ -406,7 +417,6 @@ static int block_answers(struct bytes control, uint32_t reason) {
         u.answer.reason = 1;
         fine &= agrees(&u, 's', control, after) & agrees(&u, '1', control, after);
         u = t;
-        u.after.vectors = t.before.vectors;
         u.program_base = 0x1002;
         u.answer.reason = 2;
         fine &= agrees(&u, 's', control, after) & agrees(&u, '1', control, after);
@@ -422,28 +432,162 @@ static int block_answers(struct bytes control, uint32_t reason) {
     return fine;
 }
 
-/* blocks of every length to 49, and every number of mark and switch with a bit in each place */
+/* what the ADDV.W answers with this switch and this order, where the rest of the block is good */
+static uint32_t setting_reason(unsigned on, unsigned order) {
+    return on > 1 || order > 1 ? MSA_REFUSED_STATE : on == 0 ? MSA_SWITCHED_OFF : MSA_FINISHED;
+}
+
+/* every number of switch and order; where the step is finished both are left as they were */
+static void settings(void) {
+    unsigned cases = 1 << 16, agree = 0;
+    struct test finished = adding(), kept = finished;
+    kept.after.vectors = kept.before.vectors;
+    finished.unfenced = kept.unfenced = 1;
+    for (unsigned both = 0; both < cases; both++) {
+        unsigned on = both & 255, order = both >> 8;
+        struct bytes control = block(0x1000, 0, 0, 0, on, order), after = copy(control);
+        kept.answer.reason = setting_reason(on, order);
+        if (kept.answer.reason == MSA_FINISHED) put(after.at + MSA_CONTROL_PC, 8, 0x1004);
+        struct test *t = kept.answer.reason == MSA_FINISHED ? &finished : &kept;
+        snprintf(t->name, sizeof t->name, "switch %u, order %u", on, order);
+        agree += (unsigned)(agrees(t, 's', control, after) & agrees(t, '1', control, after));
+        free(control.at);
+        free(after.at);
+    }
+    printf("switches and orders: %u of %u cases agree\n", agree, cases);
+}
+
+/* Blocks of every length to 49; every number of mark with a bit in each place, beside the same of switch and order as
+ * one number, and that number with its lowest bit turned.
+ */
 static void blocks(void) {
     unsigned cases = 0, agree = 0;
     for (size_t n = 0; n < 50; n++) {
-        struct bytes b = lend(n), good = block(0x1000, 0, 0, 0, 1);
+        struct bytes b = lend(n), good = block(0x1000, 0, 0, 0, 1, 0);
         memset(b.at, 0, n);
         memcpy(b.at, good.at, n < 24 ? n : 24);
         cases++;
         agree += (unsigned)block_answers(b, n == 24 ? MSA_FINISHED : MSA_REFUSED_STATE);
     }
     for (unsigned mark = 0; mark < 65536; mark = mark < 4 ? mark + 1 : 2 * mark)
-        for (unsigned on = 0; on < 65536; on = on < 4 ? on + 1 : 2 * on) {
-            uint32_t reason = mark > 2 || on > 1 ? MSA_REFUSED_STATE : on == 0 ? MSA_SWITCHED_OFF : MSA_FINISHED;
-            cases++;
-            struct bytes b = block(0x1000, mark == 2 ? 0x2000 : 0x2001, 0x0107FFFF, (uint16_t)mark, (uint16_t)on);
-            agree += (unsigned)block_answers(b, reason);
-        }
+        for (unsigned both = 0; both < 65536; both = both < 4 ? both + 1 : 2 * both)
+            for (unsigned turned = 0; turned < 2; turned++) {
+                unsigned on = (both ^ turned) & 255, order = both >> 8;
+                uint32_t reason = mark > 2 ? MSA_REFUSED_STATE : setting_reason(on, order);
+                cases++;
+                struct bytes b = block(0x1000, mark == 2 ? 0x2000 : 0x2001, 0x0107FFFF, mark, on, order);
+                agree += (unsigned)block_answers(b, reason);
+            }
     cases += 3;
-    agree += (unsigned)block_answers(block(0x1002, 0, 0, 0, 1), MSA_REFUSED_STATE);
-    agree += (unsigned)block_answers(block(0x1000, 0x2001, 0, 2, 1), MSA_REFUSED_STATE);
-    agree += (unsigned)block_answers(block(0x1000, 0, 0x00080000, 0, 1), MSA_REFUSED_STATE);
+    agree += (unsigned)block_answers(block(0x1002, 0, 0, 0, 1, 0), MSA_REFUSED_STATE);
+    agree += (unsigned)block_answers(block(0x1000, 0x2001, 0, 2, 1, 0), MSA_REFUSED_STATE);
+    agree += (unsigned)block_answers(block(0x1000, 0, 0x00080000, 0, 1, 0), MSA_REFUSED_STATE);
     printf("control blocks: %u of %u cases agree\n", agree, cases);
+}
+
+/* Table 3.1 of the manual, read off, and the same of the other formats: where byte b of a register is in big-endian
+ * memory, from the address of the load or store on. Little-endian all four formats are as B is.
+ */
+static const uint8_t PLACES[4][16] = {{0, 1, 2, 3, 4, 5, 6, 7, 8, 9, 10, 11, 12, 13, 14, 15},
+                                      {1, 0, 3, 2, 5, 4, 7, 6, 9, 8, 11, 10, 13, 12, 15, 14},
+                                      {3, 2, 1, 0, 7, 6, 5, 4, 11, 10, 9, 8, 15, 14, 13, 12},
+                                      {7, 6, 5, 4, 3, 2, 1, 0, 15, 14, 13, 12, 11, 10, 9, 8}};
+
+static void store(uint8_t *memory, const uint8_t *vector, unsigned format, unsigned order) {
+    for (int b = 0; b < 16; b++) memory[PLACES[order == MSA_ORDER_BIG ? format : 0][b]] = vector[b];
+}
+
+static void load(uint8_t *vector, const uint8_t *memory, unsigned format, unsigned order) {
+    for (int b = 0; b < 16; b++) vector[b] = memory[PLACES[order == MSA_ORDER_BIG ? format : 0][b]];
+}
+
+/* a number of no meaning, below another; the same in every replay */
+static unsigned drawn(unsigned below) {
+    static uint64_t x = 1;
+    x = x * UINT64_C(6364136223846793005) + UINT64_C(1442695040888963407);
+    return (unsigned)((x >> 32) % below);
+}
+
+static struct bytes drawn_bytes(size_t n) {
+    struct bytes b = lend(n);
+    for (size_t i = 0; i < n; i++) b.at[i] = (uint8_t)drawn(256);
+    return b;
+}
+
+/* A program of so many words, still to be put, over drawn bytes. The table begins where the work window ends; in some
+ * cases these are the two ends of memory.
+ */
+static struct test drawn_test(size_t words, unsigned order) {
+    struct test t = {.program = lend(4 * words), .table = drawn_bytes(40), .program_base = 0x1000, .big = order};
+    t.work_base = drawn(4) ? 0x4000 : UINT64_MAX - 63;
+    t.table_base = t.work_base + 64;
+    t.before = (struct lent){drawn_bytes(512), drawn_bytes(256), drawn_bytes(64), block(0x1000, 0, 0, 0, 1, order)};
+    put(t.before.generals.at, 8, 0);
+    return t;
+}
+
+static void give_back_test(const struct test *t) {
+    free(t->program.at);
+    free(t->table.at);
+    give_back(&t->before);
+    give_back(&t->after);
+}
+
+enum { LD = 0x20, ST = 0x24 }; /* minor opcodes, of format B */
+
+/* puts the word of a load or store of $wd with a drawn offset, and into $rs what makes this its address */
+static void put_access(struct test *t, size_t word, unsigned minor, unsigned format, unsigned wd, unsigned rs,
+                       uint64_t address) {
+    uint32_t s10 = drawn(1024);
+    put(t->before.generals.at + 8 * rs, 8, address - (((uint64_t)s10 ^ 512) - 512) * (UINT64_C(1) << format));
+    put(t->program.at + 4 * word, 4, UINT32_C(0x78000000) | s10 << 16 | rs << 11 | wd << 6 | minor | format);
+}
+
+/* loads and stores of every format in both orders, in the table and in the work window */
+static void accesses(void) {
+    unsigned cases = 1 << 11, agree = 0;
+    for (unsigned i = 0; i < cases; i++) {
+        unsigned order = i & 1, format = i >> 1 & 3, stores = i >> 3 & 1, in_table = i >> 4 & 1, wd = drawn(32);
+        struct test t = drawn_test(1, order);
+        unsigned at = drawn((unsigned)(in_table ? t.table.n : t.before.work.n) - 15);
+        snprintf(t.name, sizeof t.name, "%s.%c %u", stores ? "ST" : "LD", "BHWD"[format], i);
+        put_access(&t, 0, stores ? ST : LD, format, wd, 1 + drawn(31), (in_table ? t.table_base : t.work_base) + at);
+        t.after = copies(&t.before);
+        uint8_t *vector = t.after.vectors.at + 16 * wd, *memory = (in_table ? t.table : t.after.work).at + at;
+        if (stores && in_table) t.answer.reason = MSA_READ_ONLY;
+        else {
+            if (stores) store(memory, vector, format, order);
+            else load(vector, memory, format, order);
+            put(t.after.control.at + MSA_CONTROL_PC, 8, 0x1004);
+        }
+        agree += (unsigned)check(&t);
+        give_back_test(&t);
+    }
+    printf("loads and stores: %u of %u cases agree\n", agree, cases);
+}
+
+/* a store and then a load at the same address, each format after each; the same one gives the register back */
+static void round_trips(void) {
+    unsigned cases = 1 << 9, agree = 0;
+    for (unsigned i = 0; i < cases; i++) {
+        unsigned order = i & 1, first = i >> 1 & 3, second = i >> 3 & 3, from = drawn(32), to = drawn(32);
+        struct test t = drawn_test(2, order);
+        unsigned at = drawn((unsigned)t.before.work.n - 15);
+        snprintf(t.name, sizeof t.name, "ST.%c LD.%c %u", "BHWD"[first], "BHWD"[second], i);
+        put_access(&t, 0, ST, first, from, 1 + drawn(15), t.work_base + at);
+        put_access(&t, 1, LD, second, to, 16 + drawn(16), t.work_base + at);
+        t.run = 1;
+        t.budget = 3;
+        t.answer = (struct msa_ended){MSA_NO_WORD, 2, 0};
+        t.after = copies(&t.before);
+        store(t.after.work.at + at, t.before.vectors.at + 16 * from, first, order);
+        if (first == second) memcpy(t.after.vectors.at + 16 * to, t.before.vectors.at + 16 * from, 16);
+        else load(t.after.vectors.at + 16 * to, t.after.work.at + at, second, order);
+        put(t.after.control.at + MSA_CONTROL_PC, 8, 0x1008);
+        agree += (unsigned)check(&t);
+        give_back_test(&t);
+    }
+    printf("stores and then loads: %u of %u cases agree\n", agree, cases);
 }
 
 /* CTCMSA $1,$4 of every number in the bits 17 to 7, with all other bits set: when a trap is armed, and by which bits */
@@ -451,7 +595,7 @@ static void traps(void) {
     static uint8_t program[4] = {0x59, 0x20, 0x3E, 0x78};
     struct test t = {.name = "trap", .program = {program, 4}, .table = lend(0), .program_base = 0x1000};
     unsigned cases = 1 << 11, agree = 0;
-    t.before = (struct lent){lend(512), lend(256), lend(0), block(0x1000, 0, 0, 0, 1)};
+    t.before = (struct lent){lend(512), lend(256), lend(0), block(0x1000, 0, 0, 0, 1, 0)};
     memset(t.before.vectors.at, 0, 512);
     memset(t.before.generals.at, 0, 256);
     for (uint32_t bits = 0; bits < cases; bits++) {
@@ -463,7 +607,7 @@ static void traps(void) {
         t.word = arming ? 0x783E2059 : 0;
         t.fact = arming;
         t.after = t.before;
-        if (!arming) t.after.control = block(0x1004, 0, value & 0x0107FFFF, 0, 1);
+        if (!arming) t.after.control = block(0x1004, 0, value & 0x0107FFFF, 0, 1, 0);
         agree += (unsigned)check(&t);
         if (!arming) free(t.after.control.at);
     }
@@ -487,6 +631,9 @@ static void texts(void) {
 int main(int n, char **names) {
     for (int i = 1; i < n; i++) replay(names[i]);
     blocks();
+    settings();
+    accesses();
+    round_trips();
     traps();
     texts();
     printf("msa_why: %lu calls on fenced read-only pages\n", fenced_calls);

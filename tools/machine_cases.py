@@ -2,7 +2,9 @@
 """Writes crates/machine_test/stdin: the cases of step.txt, run.txt, kernels/*.vec, corners-step.txt and
 corners-run.txt, whole, each from the first folder that has it; document 01's edges of a set-up, and accesses about two
 windows that stop; a step of each mnemonic and format of ops.txt; control blocks, those outside docs/LAYOUT.md among
-them; the cases of VECTORS-DIR/after-6 that name a reason, which have its word and its fact; and values for MSACSR.
+them; the cases of VECTORS-DIR/after-6 that name a reason, which have its word and its fact; values for MSACSR; the
+big-endian cases of VECTORS-DIR/after-7; and loads and stores of each format in both byte orders. Of the cases with the
+rule of request 2/12 those that have a word of it are left out: of a step the word at the program counter, of a run any.
 
 usage: tools/machine_cases.py VECTORS-DIR/after-1 VECTORS-DIR > crates/machine_test/stdin
 
@@ -35,20 +37,18 @@ import os
 import struct
 import sys
 
-GROUPS = ["step", "run", "kernels", "corners-step", "corners-run", "edges", "forms", "blocks", "why"]
-RULES = "1 0 0"  # the requests that hold, as the r line of a case has them; they concern no word of a kernel
-LATER = "1 1 0"  # with request 2/12 too: alike but for its words
+GROUPS = ["step", "run", "kernels", "corners-step", "corners-run", "edges", "forms", "blocks", "why", "big"]
 KERNELS = ["beams", "correlate", "movavg", "peak", "threshold"]
-BLOCK = "<QQIHH"  # program counter, target, MSACSR, slot mark, MSA switch
+BLOCK = "<QQIHBB"  # program counter, target, MSACSR, slot mark, MSA switch, byte order
 ADDV_W = 0x7842094E  # ADDV.W $w5,$w1,$w2
-LD_B, ST_B = 0x78000960, 0x78000964  # LD.B $w5,0($1), ST.B $w5,0($1)
+LD_B, ST_B = 0x78000960, 0x78000964  # LD.B $w5,0($1), ST.B $w5,0($1); formats H, W, D: 1, 2, 3 more
 CTCMSA = 0x783E0859  # CTCMSA $1,$1: to MSACSR
 ODD = 0xFEDCBA9876543211  # a target that no set-up accepts of a taken mark
 
 
-def laid(pc=0, mark=0, target=0, csr=0, on=1):
+def laid(pc=0, mark=0, target=0, csr=0, on=1, order=0):
     """The bytes of a control block."""
-    return struct.pack(BLOCK, pc, target, csr, mark, on)
+    return struct.pack(BLOCK, pc, target, csr, mark, on, order)
 
 
 def data(token):
@@ -65,9 +65,9 @@ def window(text):
     return int(base, 16), data(token)
 
 
-def control(text):
+def control(text, order):
     pc, mark, target, csr, on = text.split()
-    return laid(int(pc, 16), int(mark), int(target, 16), int(csr, 16), int(on))
+    return laid(int(pc, 16), int(mark), int(target, 16), int(csr, 16), int(on), order)
 
 
 def parsed(path, group):
@@ -76,18 +76,26 @@ def parsed(path, group):
         key, _, rest = line.rstrip("\n").partition(" ")
         if key == "end":
             c = case_of(fields, group)
-            if fields["r"] == RULES or group == "kernels" or fields["r"] == LATER and not fixed_point(word_at(c)):
+            if group == "kernels" or holds(c, *fields["r"].split()[:2]):
                 yield c
             fields = {}
         elif key != "#":
             fields[key] = rest
 
 
+def holds(c, division, fixed):
+    """Whether a case with these rules in its r line holds. Request 1/12 does and 2/12 does not, but a case that has its
+    rule too is alike where it has none of its words. (Neither concerns a word of a kernel.)"""
+    words = struct.unpack_from(f"<{len(c['p']) // 4}I", c["p"]) if c["entry"] == "run" else [word_at(c)]
+    return division == "1" and not (fixed == "1" and any(map(fixed_point, words)))
+
+
 def case_of(f, group):
     name, entry = f["case"].split()
     reason, count = f["="].split()
+    order = int(f["r"].split()[2])
     c = {"group": group, "entry": entry, "v": data(f["v"]), "g": data(f["g"])}
-    c["c"], c["C"] = control(f["c"]), control(f["C"])
+    c["c"], c["C"] = control(f["c"], order), control(f["C"], order)
     for k in "ptw":
         c[k + "b"], c[k] = window(f[k])
     for k in "VGW":
@@ -240,6 +248,9 @@ def forms(path):
 
 # a bit in each place, and the numbers about a byte
 NUMBERS = [0, 1, 2, 3, 4] + [1 << k for k in range(3, 16)] + [255, 257, 258, 65535]
+# of switch and order as one number, as bytes 22 and 23 have it: these, and each switch of the layout beside more orders
+SETTINGS = NUMBERS + [order << 8 | on for order in (2, 3, 128, 255) for on in (0, 1) if order << 8 | on not in NUMBERS]
+ACCEPTED = [0, 1, 256, 257]
 # what is answered before 5
 EARLIER = [
     (1, {"v": bytes(511)}),
@@ -255,8 +266,8 @@ def block_answer(b):
     """What a step of ADDV.W at address 0 answers, where only the control block b can be refused: docs/LAYOUT.md."""
     if len(b) != 24:
         return 5
-    pc, target, csr, mark, on = struct.unpack(BLOCK, b)
-    if pc % 4 or csr & ~0x0107FFFF or mark > 2 or (mark == 2 and target % 4) or on > 1:
+    pc, target, csr, mark, on, order = struct.unpack(BLOCK, b)
+    if pc % 4 or csr & ~0x0107FFFF or mark > 2 or (mark == 2 and target % 4) or on > 1 or order > 1:
         return 5
     return 0 if on else 16
 
@@ -266,8 +277,8 @@ def block_ways(b):
     reason = block_answer(b)
     done = {}
     if reason == 0:
-        _, target, csr, mark, _ = struct.unpack(BLOCK, b)
-        done = {"V": added(edge(0, "step", 0)["v"]), "C": laid(target if mark == 2 else 4, csr=csr)}
+        _, target, csr, mark, _, order = struct.unpack(BLOCK, b)
+        done = {"V": added(edge(0, "step", 0)["v"]), "C": laid(target if mark == 2 else 4, csr=csr, order=order)}
     yield edge(0, "step", reason, c=b, **done)
     yield edge(0, "run", 20 if reason == 0 else reason, c=b, budget=1, count=int(reason == 0), **done)
     yield edge(0, "run", 5 if reason == 5 else 20, c=b)
@@ -284,23 +295,23 @@ def odd_targets(cases):
     it is kept where nothing was finished, else 0 is written."""
     seen = set()
     for c in cases:
-        pc, _, csr, mark, on = struct.unpack(BLOCK, c["c"])
+        pc, _, csr, mark, on, order = struct.unpack(BLOCK, c["c"])
         finished = c["count"] > 0 or c["reason"] == 0
         key = c["entry"], c["reason"], finished, mark
         if mark < 2 and key not in seen:
             seen.add(key)
-            b = laid(pc, mark, ODD, csr, on)
+            b = laid(pc, mark, ODD, csr, on, order)
             yield {**c, "c": b, "C": c["C"] if finished else b}
 
 
 def blocks(cases):
     lengths = [(laid() + bytes(256))[:n] for n in [*range(50), 280]]
-    pairs = [(m, s) for m in NUMBERS for s in NUMBERS if m < 3 or s < 2 or m == s]
-    marks = [laid(mark=m, target=ODD if m < 2 else 8, csr=0x0107FFFF, on=s) for m, s in pairs]
+    pairs = [(m, s) for m in NUMBERS for s in SETTINGS if m < 3 or s in ACCEPTED or m == s]
+    marks = [laid(0, m, ODD if m < 2 else 8, 0x0107FFFF, s & 255, s >> 8) for m, s in pairs]
     others = [laid(pc=2), laid(mark=2, target=10), laid(csr=0x00080000)]
     out = [c for b in lengths + marks + others for c in block_ways(b)]
     outside = [lengths[n] for n in (0, 23, 25)] + [laid(mark=m) for m in (3, 255, 256, 512, 65535)]
-    outside += [laid(on=s) for s in (2, 255, 256, 512, 65535)] + others
+    outside += [laid(on=s & 255, order=s >> 8) for s in SETTINGS if s not in ACCEPTED] + others
     out += [c for b in outside for c in refused_earlier(b)]
     out += odd_targets(cases)
     return [{**c, "group": "blocks", "number": n} for n, c in enumerate(out, 1)]
@@ -318,6 +329,36 @@ def trap_values():
                     yield edge(0, "step", 19, **given)
                 else:
                     yield edge(0, "step", 0, **given, C=laid(4, csr=x & 0x0107FFFF))
+
+
+def turned(b, size, order):
+    """The sixteen bytes of a register, in elements of this size, as memory has them, and back: Table 3.1."""
+    return b"".join(b[i : i + size][:: -1 if order else 1] for i in range(0, 16, size))
+
+
+def accesses():
+    """Request 7/12: LD and ST of $w5, each format in both orders, from the table, from and to the work window, at
+    addresses that are no multiple of a size, with a negative and a positive offset; as a step and as a run. Then a
+    store of $w5 and a load of $w6 at the same address, each format after each."""
+    v, t, w = edge(0, "step", 0)["v"], bytes(range(100, 140)), bytes(range(200, 240))
+    for order in (0, 1):
+        windows = {"t": t, "tb": 0x1000, "w": w, "wb": 0x2000, "c": laid(order=order)}
+        for f in range(4):
+            stored = turned(v[80:96], 1 << f, order)
+            for s10 in (-2, 1):
+                for word, at in ((LD_B, 0x1005), (LD_B, 0x2007), (ST_B, 0x2003)):
+                    after = {"W": w[:3] + stored + w[19:]}
+                    if word == LD_B:
+                        found = t[5:21] if at == 0x1005 else w[7:23]
+                        after = {"V": v[:80] + turned(found, 1 << f, order) + v[96:]}
+                    given = {**windows, **after, "p": struct.pack("<I", word + f | (s10 & 1023) << 16)}
+                    given.update(g=general_1(at - (s10 << f)), C=laid(4, order=order))
+                    yield edge(0, "step", 0, **given)
+                    yield edge(0, "run", 11, budget=2, count=1, **given)
+            for g in range(4):
+                given = {**windows, "p": struct.pack("<II", ST_B + f, LD_B + g + (1 << 6)), "g": general_1(0x2003)}
+                given.update(V=v[:96] + turned(stored, 1 << g, order) + v[112:], W=w[:3] + stored + w[19:])
+                yield edge(0, "run", 11, budget=3, count=2, **given, C=laid(8, order=order))
 
 
 def pieces(old, new):
@@ -375,6 +416,9 @@ def main():
     shared = parsed(os.path.join(sys.argv[-1], "after-6", "step.txt"), "why")
     why = [*(c for c in shared if c["reason"]), *trap_values()]
     cases += [{**c, "group": "why", "number": n} for n, c in enumerate(why, 1)]
+    shared = [os.path.join(sys.argv[-1], "after-7", name) for name in ("step.txt", "run.txt")]
+    big = [*(c for path in shared for c in parsed(path, "big") if c["c"][23]), *accesses()]
+    cases += [{**c, "group": "big", "number": n} for n, c in enumerate(big, 1)]
     kept = [bytes(n) for n in (100, 513, 264, 280)]
     for c in cases:
         text, kept = record(c, kept)

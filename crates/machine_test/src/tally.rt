@@ -3,15 +3,15 @@ use crate::head;
 use std::num::wrapping_add_u64;
 
 pub struct Tally {
-    pub cases: [u64; 9],
-    pub agree: [u64; 9],
+    pub cases: [u64; 10],
+    pub agree: [u64; 10],
     pub reached: [u64; 32],
 }
 
 pub fn none() -> Tally {
     Tally {
-        cases: [0; 9],
-        agree: [0; 9],
+        cases: [0; 10],
+        agree: [0; 10],
         reached: [0; 32],
     }
 }
@@ -42,8 +42,11 @@ fn name(group: u8) {
         7 => {
             io::write_all(1, b"blocks");
         }
-        _ => {
+        8 => {
             io::write_all(1, b"why");
+        }
+        _ => {
+            io::write_all(1, b"big-endian");
         }
     }
 }
@@ -60,7 +63,7 @@ pub fn with(t: Tally, h: [u8; 100], agrees: bool) -> Tally {
     let mut cases = t.cases;
     let mut agree = t.agree;
     let mut reached = t.reached;
-    let k = (h[0] % 9) as usize;
+    let k = (h[0] % 10) as usize;
     let r = (h[8] % 32) as usize;
     cases[k] = wrapping_add_u64(cases[k], 1);
     if agrees {
@@ -92,9 +95,9 @@ fn reason(n: usize, times: u64) {
     }
 }
 
-fn lines(agree: [u64; 9], cases: [u64; 9]) {
+fn lines(agree: [u64; 10], cases: [u64; 10]) {
     let mut k: usize = 0;
-    while k < 9 {
+    while k < 10 {
         line(k as u8, agree[k], cases[k]);
         k += 1;
     }
