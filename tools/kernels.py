@@ -1,7 +1,8 @@
 """kernels.py: writes host/kernels/NAME.bin from ../shared/vectors/kernels/NAME.vec, for host/bench.c.
 
-Little-endian, in this order: program base, table base, work base (8 bytes each); budget, reason, count, and the lengths of program,
-table and work window (4 each); then bytes: program, table, and twice, before and after, vectors (512), generals (256), work, control (24).
+Little-endian, in this order: program base, table base, work base (8 bytes each); budget, reason, count, and the lengths
+of program, table and work window (4 each); then bytes: program, table, and twice, before and after, vectors (512),
+generals (256), work, control (24, docs/LAYOUT.md).
 """
 import glob
 import os
@@ -19,8 +20,8 @@ def data(token):
     return bytes.fromhex(token)
 
 
-def control(pc, mark, target, msacsr, switch):
-    return struct.pack("<QQIHH", int(pc, 16), int(target, 16), int(msacsr, 16), int(mark), int(switch))
+def control(order, pc, mark, target, msacsr, switch):
+    return struct.pack("<QQIHBB", int(pc, 16), int(target, 16), int(msacsr, 16), int(mark), int(switch), int(order))
 
 
 def main():
@@ -31,8 +32,8 @@ def main():
         out = struct.pack("<3Q", *(int(f[k][0], 16) for k in "ptw"))
         out += struct.pack("<6I", int(f["b"][0]), int(f["="][0]), int(f["="][1]), len(program), len(table), len(work))
         out += program + table
-        out += data(f["v"][0]) + data(f["g"][0]) + work + control(*f["c"])
-        out += after["V"] + after["G"] + after["W"] + control(*f["C"])
+        out += data(f["v"][0]) + data(f["g"][0]) + work + control(f["r"][2], *f["c"])
+        out += after["V"] + after["G"] + after["W"] + control(f["r"][2], *f["C"])
         name = os.path.basename(path)[:-4]
         with open(os.path.join(ROOT, "host", "kernels", name + ".bin"), "wb") as to:
             to.write(out)
