@@ -458,7 +458,7 @@ static void settings(void) {
 }
 
 /* Blocks of every length to 49; every number of mark with a bit in each place, beside the same of switch and order as
- * one number, and that number with its lowest bit turned.
+ * one number, and from 4 on that number with its lowest bit turned.
  */
 static void blocks(void) {
     unsigned cases = 0, agree = 0;
@@ -471,7 +471,7 @@ static void blocks(void) {
     }
     for (unsigned mark = 0; mark < 65536; mark = mark < 4 ? mark + 1 : 2 * mark)
         for (unsigned both = 0; both < 65536; both = both < 4 ? both + 1 : 2 * both)
-            for (unsigned turned = 0; turned < 2; turned++) {
+            for (unsigned turned = 0; turned < (both < 4 ? 1 : 2); turned++) {
                 unsigned on = (both ^ turned) & 255, order = both >> 8;
                 uint32_t reason = mark > 2 ? MSA_REFUSED_STATE : setting_reason(on, order);
                 cases++;
@@ -518,10 +518,13 @@ static struct bytes drawn_bytes(size_t n) {
  * cases these are the two ends of memory.
  */
 static struct test drawn_test(size_t words, unsigned order) {
-    struct test t = {.program = lend(4 * words), .table = drawn_bytes(40), .program_base = 0x1000, .big = order};
+    struct test t = {.program = lend(4 * words), .table = drawn_bytes(40), .program_base = 0x1000};
     t.work_base = drawn(4) ? 0x4000 : UINT64_MAX - 63;
     t.table_base = t.work_base + 64;
-    t.before = (struct lent){drawn_bytes(512), drawn_bytes(256), drawn_bytes(64), block(0x1000, 0, 0, 0, 1, order)};
+    t.before.vectors = drawn_bytes(512);
+    t.before.generals = drawn_bytes(256);
+    t.before.work = drawn_bytes(64);
+    t.before.control = block(0x1000, 0, 0, 0, 1, order);
     put(t.before.generals.at, 8, 0);
     return t;
 }

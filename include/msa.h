@@ -2,7 +2,7 @@
  * MIPS64 SIMD Architecture, rev. 1.12, and why the next step would stop. The layout of the
  * lent bytes is described in docs/LAYOUT.md. Program, registers and control block are
  * little-endian; the elements that a kernel loads from the table and the work window, and
- * stores there, are in the order that the control block names.
+ * stores into the work window, are in the order that the control block names.
  *
  * Link with target/staticlib/libentry.a (`rt staticlib entry`, x86-64). The three functions
  * msa_step, msa_run and msa_why are pure but for the bytes lent to them: they allocate
@@ -37,13 +37,13 @@ enum {
     MSA_CONTROL_MSACSR = 16, /* 4 bytes */
     MSA_CONTROL_MARK = 20, /* 2 bytes: slot mark */
     MSA_CONTROL_SWITCH = 22, /* 1 byte: MSA switch */
-    MSA_CONTROL_ORDER = 23 /* 1 byte: byte order; no call changes it */
+    MSA_CONTROL_ORDER = 23 /* 1 byte: byte order; no call changes it. With a switch written as two bytes it is little */
 };
 
 enum { MSA_MARK_CLEAR = 0, MSA_MARK_NOT_TAKEN = 1, MSA_MARK_TAKEN = 2 };
 enum { MSA_SWITCH_OFF = 0, MSA_SWITCH_ON = 1 };
 
-/* The byte order of loads and stores of format H, W or D, in the table and in the work window; fixed for a run. Element
+/* The byte order of loads and stores of format H, W or D, whichever window they go to; fixed for a run. Element
  * i is at the address of the load or store plus i times its size in either order, and format B is the same in both.
  */
 enum {

@@ -37,7 +37,7 @@ import os
 import struct
 import sys
 
-GROUPS = ["step", "run", "kernels", "corners-step", "corners-run", "edges", "forms", "blocks", "why", "big"]
+GROUPS = ["step", "run", "kernels", "corners-step", "corners-run", "edges", "forms", "blocks", "why", "order"]
 KERNELS = ["beams", "correlate", "movavg", "peak", "threshold"]
 BLOCK = "<QQIHBB"  # program counter, target, MSACSR, slot mark, MSA switch, byte order
 ADDV_W = 0x7842094E  # ADDV.W $w5,$w1,$w2
@@ -84,8 +84,8 @@ def parsed(path, group):
 
 
 def holds(c, division, fixed):
-    """Whether a case with these rules in its r line holds. Request 1/12 does and 2/12 does not, but a case that has its
-    rule too is alike where it has none of its words. (Neither concerns a word of a kernel.)"""
+    """Whether a case with these rules in its r line holds: with that of request 1/12, and with that of 2/12 where no
+    word is one of 2/12. (Neither concerns a word of a kernel.)"""
     words = struct.unpack_from(f"<{len(c['p']) // 4}I", c["p"]) if c["entry"] == "run" else [word_at(c)]
     return division == "1" and not (fixed == "1" and any(map(fixed_point, words)))
 
@@ -250,7 +250,7 @@ def forms(path):
 NUMBERS = [0, 1, 2, 3, 4] + [1 << k for k in range(3, 16)] + [255, 257, 258, 65535]
 # of switch and order as one number, as bytes 22 and 23 have it: these, and each switch of the layout beside more orders
 SETTINGS = NUMBERS + [order << 8 | on for order in (2, 3, 128, 255) for on in (0, 1) if order << 8 | on not in NUMBERS]
-ACCEPTED = [0, 1, 256, 257]
+ACCEPTED = [0, 1, 256, 257]  # those of the layout
 # what is answered before 5
 EARLIER = [
     (1, {"v": bytes(511)}),
@@ -417,8 +417,8 @@ def main():
     why = [*(c for c in shared if c["reason"]), *trap_values()]
     cases += [{**c, "group": "why", "number": n} for n, c in enumerate(why, 1)]
     shared = [os.path.join(sys.argv[-1], "after-7", name) for name in ("step.txt", "run.txt")]
-    big = [*(c for path in shared for c in parsed(path, "big") if c["c"][23]), *accesses()]
-    cases += [{**c, "group": "big", "number": n} for n, c in enumerate(big, 1)]
+    big = [*(c for path in shared for c in parsed(path, "order") if c["c"][23]), *accesses()]
+    cases += [{**c, "group": "order", "number": n} for n, c in enumerate(big, 1)]
     kept = [bytes(n) for n in (100, 513, 264, 280)]
     for c in cases:
         text, kept = record(c, kept)

@@ -5,7 +5,6 @@ use lib.ListN.{length}
 use native.Mathlib.Nat.{mod-lt}
 use lib.Pow.{pow-pos}
 use Rattle.isa.specs.declared.Instr.{Instr}
-use Rattle.isa.specs.declared.Instr.the-variants as instr
 use Rattle.isa.specs.declared.Memory.{Memory}
 use Rattle.isa.specs.declared.Memory.the-variants.{Ld, St}
 use Rattle.isa.specs.declared.Read.{Read}
@@ -17,13 +16,11 @@ use Rattle.memory.specs.Bytes.{part, number}
 use Rattle.memory.specs.File.{registerAt}
 use Rattle.memory.specs.Value.{register}
 use Rattle.memory.proofs.Values.{Words, value-register, register-value}
-use Rattle.ops.specs.Meaning.{memoryAt}
 use Rattle.order.specs.declared.Order.the-variants.{Little}
 use Rattle.order.specs.Order.{turned}
 use Rattle.order.proofs.OrderLaws.{turned-little}
 use Rattle.plan.specs.declared.Plan.the-variants as plan
-use Rattle.plan.specs.Numbers.{address}
-use Rattle.plan.specs.Plan.{planOf, executed, accessed, loaded, stored, generalAt, kindOf, early, unless}
+use Rattle.plan.specs.Plan.{planOf, executedBy, accessed, loaded, stored, kindOf, early, unless}
 use Rattle.reading.specs.Reading.{readOf}
 use Rattle.state.specs.declared.fetch.Fetched.{Fetched}
 use Rattle.state.specs.declared.fetch.Fetched.the-variants as fetch
@@ -33,7 +30,7 @@ use Rattle.state.specs.Fetch.{fetched}
 use Rattle.state.specs.Machine.{Env, Machine}
 use Rattle.state.specs.Windows.{spotOf}
 use Rattle.machine.specs.Step.{stepOf, attempted, decided, concluded}
-use Rattle.demands.specs.Before.{loadedBefore, storedBefore, accessedBefore, executedBefore, decidedBefore}
+use Rattle.demands.specs.Before.{loadedBefore, storedBefore, accessedBefore, planBefore, decidedBefore}
 use Rattle.demands.specs.Before.{attemptedBefore, LittleStep}
 
 words : (x : ℕ) → Words (register x)
@@ -60,41 +57,21 @@ module _ (e : Env) (m : Machine) (same : e .board .order ≡ Little) where
   stored-is (Outside y) df a x = refl
 
   accessed-is : (o : Memory) (df : Width) (wd : Vreg) (a : ℕ)
-      → accessed o df (e .board) (e .table) (m .vec) (m .work) wd a ≡ accessedBefore o e m wd a
+      → accessed o df (e .board) (e .table) (m .vec) (m .work) wd a ≡ accessedBefore e m o df wd a
   accessed-is Ld df wd a = loaded-is (spotOf (e .board) (length (e .table)) (length (m .work)) a) df wd
   accessed-is St df wd a =
       stored-is (spotOf (e .board) (length (e .table)) (length (m .work)) a) df a (registerAt (m .vec) wd)
 
-  executed-is : (i : Instr) → executed e m i ≡ executedBefore e m i
-  executed-is (instr.Three k df wd ws wt) = refl
-  executed-is (instr.Indexed k df wd ws rt) = refl
-  executed-is (instr.Imm5U k df wd ws imm) = refl
-  executed-is (instr.Imm5S k df wd ws imm) = refl
-  executed-is (instr.Ldi df wd imm) = refl
-  executed-is (instr.Bit k df wd ws b) = refl
-  executed-is (instr.Imm8 k wd ws imm) = refl
-  executed-is (instr.Shf df wd ws imm) = refl
-  executed-is (instr.Element k df wd ws n) = refl
-  executed-is (instr.Insve df wd n ws) = refl
-  executed-is (instr.Copy k df rd ws n) = refl
-  executed-is (instr.Insert df wd n rs) = refl
-  executed-is (instr.Move wd ws) = refl
-  executed-is (instr.Cfcmsa rd cs) = refl
-  executed-is (instr.Ctcmsa cd rs) = refl
-  executed-is (instr.Vec k wd ws wt) = refl
-  executed-is (instr.Fill df wd rs) = refl
-  executed-is (instr.Count k df wd ws) = refl
-  executed-is (instr.Memory k df wd offset rs) =
-      accessed-is (memoryAt (k .0)) df wd (address df offset (generalAt (m .gen) rs))
-  executed-is (instr.Branch k df wt offset) = refl
-  executed-is (instr.BranchV k wt offset) = refl
-  executed-is (instr.Scaled k rd rs rt sa) = refl
+  -- so the two plans are one, whatever the instruction
+  planned-is : (i : Instr) → planOf e m i ≡ planBefore e m i
+  unfolding planOf
+  planned-is i =
+      λ j. unless (early (kindOf i) (m .ctl .mark) (m .ctl .on))
+      (executedBy (λ o df wd a. accessed-is o df wd a j) m i)
 
   decided-is : (r : Read) → decided r e m ≡ decidedBefore r e m
-  unfolding planOf
   decided-is (read.Not u) = refl
-  decided-is (read.Instr i) =
-      ap (λ q. concluded (e .board .work) (unless (early (kindOf i) (m .ctl .mark) (m .ctl .on)) q) m) (executed-is i)
+  decided-is (read.Instr i) = ap (λ q. concluded (e .board .work) q m) (planned-is i)
 
   attempted-is : (f : Fetched) → attempted f e m ≡ attemptedBefore f e m
   attempted-is (fetch.Word w) = decided-is (readOf w)

@@ -1,33 +1,19 @@
 -- The bits of MSACSR: what the machine keeps of a value, and which values arm a trap, bit by bit. Assumes nothing.
 use mathlib.Core.Path.{_≡_, refl, sym, ap, _∙_}
-use mathlib.Core.Bool.{Bool, true, not, _&&_}
+use mathlib.Core.Bool.{not, _&&_}
 use mathlib.Core.Logic.{_⊎_, inl, inr, ⊎-elim}
 use Prim.Native.Nat.{ℕ, zero, suc, _+_, _-_, _*_, _/_, _%_, _^_, _≤_, _<_}
-use native.Mathlib.Decide.{decLe, decLt}
+use native.Mathlib.Decide.{decLt}
 use native.Mathlib.Nat.{div-eq-of-lt, zero-div}
 use native.Mathlib.Omega.{arith}
 use borrow.Author.Tests.{eqb-true}
 use lib.Dec.{eqb}
 use lib.Pow.{field, mod-mod-pow, pow-mono, shr-shr}
+use Rattle.order.proofs.Every.{every-at}
 use Rattle.state.specs.Csr.{masked, bit, arms}
-use Rattle.state.proofs.TestLaws.{and-left, and-right}
 use Rattle.demands.specs.AtCounter.{Left, SharedBit, Arms}
 use Rattle.demands.specs.Tables.{Not, Some, Bit, csrBits}
 use Rattle.demands.proofs.Reflects.{Reflects, likewise, eq-reflects, or-reflects, and-reflects, not-reflects}
-
--- a test of every number below k
-abbrev every : ℕ → (ℕ → Bool) → Bool
-every zero f = true
-every (suc k) f = f k && every k f
-
-every-at : (k : ℕ) (f : ℕ → Bool) → every k f ≡ true → (j : ℕ) → j < k → f j ≡ true
-every-at zero f h j l = absurd (omega arith)
-every-at (suc k) f h j l =
-    go (decLe k j) (and-left (f k) (every k f) h) (every-at k f (and-right (f k) (every k f) h) j)
-  where
-    go : Dec (k ≤ j) → f k ≡ true → (j < k → f j ≡ true) → f j ≡ true
-    go (yes g) a b = let e : j ≡ k = omega arith in rw e a
-    go (no g) a b = b (omega arith)
 
 -- the low 19 bits are all there
 low-there : (k : ℕ) → k < 19 → Bit k csrBits

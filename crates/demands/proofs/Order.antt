@@ -2,7 +2,7 @@
 -- Assumes nothing.
 use mathlib.Core.Path.{_≡_, refl, sym, ap, _∙_}
 use mathlib.Core.List.{List}
-use mathlib.Core.Logic.{_⊎_, inl, inr}
+use mathlib.Core.Logic.{_⊎_, inl, inr, ⊎-elim}
 use Prim.Native.Nat.{ℕ, _+_, _-_, _*_, _^_, _≤_, _<_}
 use native.Mathlib.Decide.{decLt}
 use native.Mathlib.Nat.{mod-eq-of-lt}
@@ -16,21 +16,21 @@ use Rattle.isa.specs.declared.Memory.the-variants.{Ld, St}
 use Rattle.isa.specs.declared.Vreg.{Vreg}
 use Rattle.isa.specs.declared.Width.{Width}
 use Rattle.isa.specs.declared.Width.the-variants.{B, H, W, D}
-use Rattle.isa.specs.Widths.{bytes}
+use Rattle.isa.specs.Widths.{bytes, elements}
 use Rattle.memory.specs.Bytes.{part, number, replaced, bytesOf, AreBytes}
 use Rattle.memory.specs.File.{registerAt, withRegister}
 use Rattle.memory.specs.Value.{value, register}
-use Rattle.memory.proofs.Files.{registerAt-below, withRegister-same}
-use Rattle.memory.proofs.Numbers.{length-bytesOf, number-bytesOf, part-bytes}
+use Rattle.memory.proofs.Files.{registerAt-below}
+use Rattle.memory.proofs.Numbers.{length-bytesOf, part-bytes}
 use Rattle.memory.proofs.Parts.{getD-part, length-replaced, part-replaced}
 use Rattle.memory.proofs.Parts.{replaced-before, replaced-inside, replaced-after}
 use Rattle.memory.proofs.Values.{value-exact}
 use Rattle.ops.specs.Meaning.{memoryAt}
 use Rattle.order.specs.declared.Order.{Order}
 use Rattle.order.specs.declared.Order.the-variants.{Little, Big}
-use Rattle.order.specs.Order.{place, turned, registerIn}
+use Rattle.order.specs.Order.{place, turned, bytesIn, registerIn}
 use Rattle.order.proofs.ByteLaws.{byte-of, byte-in}
-use Rattle.order.proofs.OrderLaws.{place-within, place-back, turned-below, element-turned, turned-twice}
+use Rattle.order.proofs.OrderLaws.{some, place-within, place-back, turned-below, element-turned, stands-back}
 use Rattle.vectors.specs.Register.{element}
 use Rattle.plan.specs.declared.Plan.{Plan}
 use Rattle.plan.specs.declared.Plan.the-variants as plan
@@ -48,8 +48,8 @@ use Rattle.machine.specs.declared.step.Outcome.the-variants.{Finished}
 use Rattle.machine.specs.Step.{Result, stepOf, outcomeOf, concluded}
 use Rattle.demands.specs.AtCounter.{elementBytes}
 use Rattle.demands.specs.Tables.{Not, Inside}
-use Rattle.demands.specs.Order.{offset, IsByte, byteOf, ByteAt, Access, Done, firstOf, addressOf}
-use Rattle.demands.specs.Order.{LoadsBytes, StoresBytes, GivesBack}
+use Rattle.demands.specs.Order.{offset, IsByte, byteOf, ByteAt, Access, Done, firstOf}
+use Rattle.demands.specs.Order.{Loaded, LoadsBytes, StoresBytes, GivesBack}
 use Rattle.demands.proofs.Demand2.{formed}
 use Rattle.demands.proofs.Kept.{stays-accepted}
 use Rattle.demands.proofs.Lanes.{by-switch}
@@ -64,12 +64,12 @@ same-bytes H = refl
 same-bytes W = refl
 same-bytes D = refl
 
--- the elements of a register
-sixteen : (df : Width) → (m : ℕ) × (bytes df * m ≡ 16)
-sixteen B = (16, refl)
-sixteen H = (8, refl)
-sixteen W = (4, refl)
-sixteen D = (2, refl)
+-- a register is made of elements of each format
+sixteen : (df : Width) → bytes df * elements df ≡ 16
+sixteen B = refl
+sixteen H = refl
+sixteen W = refl
+sixteen D = refl
 
 offset-place : (o : Order) (n i j : ℕ) → j < n → offset o n i j ≡ place o n (n * i + j)
 offset-place Little n i j h = refl
@@ -81,25 +81,43 @@ module _ (o : Order) (df : Width) where
   abbrev n : ℕ
   n = bytes df
 
+  pos : 0 < n
+  pos = some n (elements df) 15 (sixteen df)
+
   within : (b : ℕ) → b < 16 → place o n b < 16
-  within b h = place-within n (sixteen df .0) (sixteen df .1) o b h
+  within b h = rw (sixteen df) at (place-within n pos (elements df) o b (rw (sixteen df) h))
 
-  -- byte b of the register for which sixteen bytes s stand
-  byte-loaded : (s : List ℕ) → AreBytes s → (b : ℕ) → b < 16
-      → getD (bytesOf 16 (registerIn o n s)) b 0 ≡ getD s (place o n b) 0
-  byte-loaded s h b k =
-      byte-of 16 (registerIn o n s) b k ∙ element-turned o n (number s) b k ∙ byte-in s h (place o n b)
+-- ---- registers and windows
 
-  -- the byte at the place of b of the sixteen that stand for the register of bytes s
-  byte-stored : (s : List ℕ) → AreBytes s → (b : ℕ) → b < 16
-      → getD (bytesOf 16 (turned o n (number s))) (place o n b) 0 ≡ getD s b 0
-  byte-stored s h b k =
-      byte-of 16 (turned o n (number s)) (place o n b) (within b k)
-      ∙ element-turned o n (number s) (place o n b) (within b k)
-      ∙ ap (element 8 (number s)) (place-back n (sixteen df .0) (sixteen df .1) o b)
-      ∙ byte-in s h b
+-- sixteen bytes that became those of x, and the others
+module _ (d : List ℕ) (at x : ℕ) (fits : at + 16 ≤ length d) (below : x < 2 ^ 128) where
+  abbrev put : List ℕ
+  put = bytesOf 16 (value (register x))
 
--- ---- windows
+  abbrev changed : List ℕ
+  changed = replaced d at put
+
+  room : at + length put ≤ length d
+  room = omega (arith, length-bytesOf 16 (value (register x)))
+
+  changed-length : length changed ≡ length d
+  changed-length = length-replaced d at put room
+
+  changed-byte : (b : ℕ) → b < 16 → getD changed (at + b) 0 ≡ element 8 x b
+  changed-byte b h =
+      let k : at + b - at ≡ b = omega arith in
+      replaced-inside d at put room (at + b) (omega arith) (omega (arith, length-bytesOf 16 (value (register x))))
+      ∙ ap (λ k. getD put k 0) k
+      ∙ byte-of 16 (value (register x)) b h
+      ∙ ap (λ y. element 8 y b) (value-exact below)
+
+  changed-others : (k : ℕ) → Not ((at ≤ k) × (k < at + 16)) → getD changed k 0 ≡ getD d k 0
+  changed-others k out = go (decLt k at) (decLt k (at + 16))
+    where
+      go : Dec (k < at) → Dec (k < at + 16) → getD changed k 0 ≡ getD d k 0
+      go (yes l) r = replaced-before d at put room k l
+      go (no l) (yes r) = absurd (out (omega arith, r))
+      go (no l) (no r) = replaced-after d at put room k (omega (arith, length-bytesOf 16 (value (register x))))
 
 module _ (o : Order) (df : Width) (wd : Vreg) (a base : ℕ) where
   abbrev size : ℕ
@@ -116,38 +134,33 @@ module _ (o : Order) (df : Width) (wd : Vreg) (a base : ℕ) where
   unfolding withRegister
   loaded-byte v w long small areBytes from to i j h =
       let b : ℕ = size * i + j in
-      let x : ℕ = registerIn o size (part w (a - base) 16) in
-      let s : List ℕ = bytesOf 16 (value (register x)) in
-      let at : offset o size i j ≡ place o size b = offset-place o size i j (h .1) in
+      let s : List ℕ = part w (a - base) 16 in
       let there : place o size b < 16 = within o df b (h .0) in
-      let k : 16 * wd .0 + b - 16 * wd .0 ≡ b = omega arith in
-      let from-base : a + place o size b - base ≡ a - base + place o size b = omega arith in
-      let kept : byteOf (withRegister v wd (value (register x))) wd size i j ≡ getD w (a - base + place o size b) 0 =
-      replaced-inside v (16 * wd .0) s (omega (arith, length-bytesOf 16 (value (register x)))) (16 * wd .0 + b)
-      (omega arith) (omega (arith, h .0, length-bytesOf 16 (value (register x))))
-      ∙ ap (λ k. getD s k 0) k
-      ∙ ap (λ y. getD (bytesOf 16 y) b 0) (value-exact (turned-below o size (number (part w (a - base) 16))))
-      ∙ byte-loaded o df (part w (a - base) 16) (part-bytes w (a - base) 16 areBytes) b (h .0)
+      let at : a + place o size b - base ≡ a - base + place o size b = omega arith in
+      let same =
+      changed-byte v (16 * wd .0) (registerIn o size s) (omega arith) (turned-below o size (number s)) b (h .0)
+      ∙ element-turned o size (number s) b (h .0)
+      ∙ byte-in s (part-bytes w (a - base) 16 areBytes) (place o size b)
       ∙ getD-part w (a - base) 16 (place o size b) there
       in
-      rw (at, from-base, kept) (inside w from to (place o size b) there, refl)
+      rw (offset-place o size i j (h .1), at, same) (inside w from to (place o size b) there, refl)
 
   -- where a register was stored
   module _ (v w : List ℕ) (from : base ≤ a) (to : a + 16 ≤ base + length w) where
-    abbrev x : ℕ
-    x = turned o size (registerAt v wd)
-
-    abbrev put : List ℕ
-    put = bytesOf 16 (value (register x))
-
-    fits : a - base + length put ≤ length w
-    fits = omega (arith, length-bytesOf 16 (value (register x)))
+    abbrev turnedOne : ℕ
+    turnedOne = turned o size (registerAt v wd)
 
     abbrev after : List ℕ
-    after = replaced w (a - base) put
+    after = replaced w (a - base) (bytesOf 16 (value (register turnedOne)))
+
+    fit : a - base + 16 ≤ length w
+    fit = omega arith
+
+    below : turnedOne < 2 ^ 128
+    below = turned-below o size (registerAt v wd)
 
     long : length after ≡ length w
-    long = length-replaced w (a - base) put fits
+    long = changed-length w (a - base) turnedOne fit below
 
     stored-byte : AreBytes v → (i j : ℕ) → IsByte size i j
         → ByteAt base after (a + offset o size i j) (byteOf v wd size i j)
@@ -155,49 +168,41 @@ module _ (o : Order) (df : Width) (wd : Vreg) (a base : ℕ) where
     stored-byte areBytes i j h =
         let b : ℕ = size * i + j in
         let s : List ℕ = part v (16 * wd .0) 16 in
-        let at : offset o size i j ≡ place o size b = offset-place o size i j (h .1) in
         let there : place o size b < 16 = within o df b (h .0) in
-        let back : a + place o size b - base - (a - base) ≡ place o size b = omega arith in
-        let kept : getD after (a + place o size b - base) 0 ≡ byteOf v wd size i j =
-        replaced-inside w (a - base) put fits (a + place o size b - base) (omega arith)
-        (omega (arith, length-bytesOf 16 (value (register x))))
-        ∙ ap (λ k. getD put k 0) back
-        ∙ ap (λ y. getD (bytesOf 16 y) (place o size b) 0) (value-exact (turned-below o size (registerAt v wd)))
-        ∙ byte-stored o df s (part-bytes v (16 * wd .0) 16 areBytes) b (h .0)
+        let at : a + place o size b - base ≡ a - base + place o size b = omega arith in
+        let same =
+        changed-byte w (a - base) turnedOne fit below (place o size b) there
+        ∙ element-turned o size (number s) (place o size b) there
+        ∙ ap (element 8 (number s)) (place-back size (pos o df) o b)
+        ∙ byte-in s (part-bytes v (16 * wd .0) 16 areBytes) b
         ∙ getD-part v (16 * wd .0) 16 b (h .0)
         in
-        rw (at, kept) (rw long (inside w from to (place o size b) there), refl)
+        rw (offset-place o size i j (h .1), at, same) (rw long (inside w from to (place o size b) there), refl)
 
     stored-others : (y b : ℕ) → Not ((a ≤ y) × (y < a + 16)) → ByteAt base w y b → ByteAt base after y b
-    stored-others y b out h = (rw long (h .0), go (decLt y a) ∙ h .1)
-      where
-        go : Dec (y < a) → getD after (y - base) 0 ≡ getD w (y - base) 0
-        go (yes l) = replaced-before w (a - base) put fits (y - base) (omega (arith, h .0 .0))
-        go (no l) =
-            let past : a + 16 ≤ y = go₂ (decLt y (a + 16)) in
-            replaced-after w (a - base) put fits (y - base) (omega (arith, length-bytesOf 16 (value (register x))))
-          where
-            go₂ : Dec (y < a + 16) → a + 16 ≤ y
-            go₂ (yes k) = absurd (out (omega arith, k))
-            go₂ (no k) = omega arith
+    stored-others y b out h =
+        let away : Not ((a - base ≤ y - base) × (y - base < a - base + 16)) =
+        λ r. out (omega (arith, r .0, r .1, h .0 .0), omega (arith, r .0, r .1, h .0 .0)) in
+        (rw long (h .0), changed-others w (a - base) turnedOne fit below (y - base) away ∙ h .1)
 
 -- ---- steps
 
+-- the address, by the machine's own definition, and where the windows place it
+abbrev start : Access → Machine → ℕ
+start x m = address (x .df) (x .s10) (generalAt (m .gen) (x .rs))
+
+abbrev spot : Access → Env → Machine → Spot
+spot x e m = spotOf (e .board) (length (e .table)) (length (m .work)) (start x m)
+
 module _ (o : Memory) (x : Access) (p : List ℕ) (e : Env) (m : Machine) (ok : refusal p e m ≡ Accepted)
     (d : Done o x p e m) where
-  abbrev start : ℕ
-  start = address (x .df) (x .s10) (generalAt (m .gen) (x .rs))
-
-  abbrev spot : Spot
-  spot = spotOf (e .board) (length (e .table)) (length (m .work)) start
-
   abbrev done : Plan
-  done = accessed o (x .df) (e .board) (e .table) (m .vec) (m .work) (x .wd) start
+  done = accessed o (x .df) (e .board) (e .table) (m .vec) (m .work) (x .wd) (start x m)
 
   abbrev instruction : Instr
   instruction = instr.Memory (d .op) (x .df) (x .wd) (x .s10) (x .rs)
 
-  first-is : firstOf x m ≡ start
+  first-is : firstOf x m ≡ start x m
   first-is = same-address e m (accepted p e m ok) (d .op) (x .df) (x .wd) (x .s10) (x .rs)
 
   step-is : stepOf p e m ≡ concluded (e .board .work) (planOf e m instruction) m
@@ -206,9 +211,9 @@ module _ (o : Memory) (x : Access) (p : List ℕ) (e : Env) (m : Machine) (ok : 
   planned : planOf e m instruction ≡ done
   unfolding planOf
   planned =
-      by-switch (accessed (memoryAt (d .op .0)) (x .df) (e .board) (e .table) (m .vec) (m .work) (x .wd) start)
+      by-switch (accessed (memoryAt (d .op .0)) (x .df) (e .board) (e .table) (m .vec) (m .work) (x .wd) (start x m))
       (m .ctl .on) (sym (ap (λ (r : Result). r .outcome) step-is) ∙ d .finished)
-      ∙ ap (λ o. accessed o (x .df) (e .board) (e .table) (m .vec) (m .work) (x .wd) start) (d .is)
+      ∙ ap (λ o. accessed o (x .df) (e .board) (e .table) (m .vec) (m .work) (x .wd) (start x m)) (d .is)
 
   done-is : stepOf p e m ≡ concluded (e .board .work) done m
   done-is = step-is ∙ ap (λ q. concluded (e .board .work) q m) planned
@@ -228,44 +233,46 @@ record Came (x : Access) (p : List ℕ) (e : Env) (m : Machine) (a base : ℕ) (
       (writes (x .wd) (registerIn (e .board .order) (bytes (x .df)) (part w (a - base) 16))) m
 
 module _ (x : Access) (p : List ℕ) (e : Env) (m : Machine) (ok : refusal p e m ≡ Accepted) (d : Done Ld x p e m) where
-  abbrev at : ℕ
-  at = start Ld x p e m ok d
-
   abbrev Comes : ℕ → List ℕ → Type 0
-  Comes = Came x p e m at
+  Comes = Came x p e m (start x m)
 
-  came-from : (s : Spot) → spot Ld x p e m ok d ≡ s
+  came-from : (s : Spot) → spot x e m ≡ s
       → outcomeOf (loaded s (e .board .order) (x .df) (x .wd) (e .table) (m .work)) ≡ Finished
       → stepOf p e m ≡ concluded (e .board .work) (loaded s (e .board .order) (x .df) (x .wd) (e .table) (m .work)) m
       → Comes (e .board .table) (e .table) ⊎ Comes (e .board .work) (m .work)
   came-from (Table k) q f r =
-      let h = spot-table (e .board) (length (e .table)) (length (m .work)) at k q in
+      let h = spot-table (e .board) (length (e .table)) (length (m .work)) (start x m) k q in
       inl (record { from = h .0; to = h .1; is = rw (h .2) at r })
   came-from (Work k) q f r =
-      let h = spot-work (e .board) (length (e .table)) (length (m .work)) at k q in
+      let h = spot-work (e .board) (length (e .table)) (length (m .work)) (start x m) k q in
       inr (record { from = h .0; to = h .1; is = rw (h .2) at r })
   came-from (Outside y) q f r = let z : _≡_ {A = ℕ} 0 1 = cc in absurd (omega arith)
 
   came : Comes (e .board .table) (e .table) ⊎ Comes (e .board .work) (m .work)
-  came = came-from (spot Ld x p e m ok d) refl (finishes Ld x p e m ok d) (done-is Ld x p e m ok d)
+  came = came-from (spot x e m) refl (finishes Ld x p e m ok d) (done-is Ld x p e m ok d)
 
-  came-byte : (base : ℕ) (w : List ℕ) → AreBytes w → Comes base w → (i j : ℕ) → IsByte (elementBytes (x .df)) i j
-      → ByteAt base w (addressOf x e m i j) (byteOf (stepOf p e m .after .vec) (x .wd) (elementBytes (x .df)) i j)
-  came-byte base w areBytes c i j h =
-      rw (same-bytes (x .df), first-is Ld x p e m ok d, c .is)
-      (loaded-byte (e .board .order) (x .df) (x .wd) at base (m .vec) w (accepted p e m ok .vectors)
-      (register-small Ld x p e m ok d) areBytes (c .from) (c .to) i j (rw (same-bytes (x .df)) at h))
+  came-loaded : (base : ℕ) (w : List ℕ) → AreBytes w → Comes base w → Loaded x e m (stepOf p e m .after) base w
+  unfolding withRegister
+  came-loaded base w areBytes c =
+      let o : Order = e .board .order in
+      let long = accepted p e m ok .vectors in
+      let small = register-small Ld x p e m ok d in
+      rw (c .is)
+      (record {
+        each = λ i j h.
+            rw (same-bytes (x .df), first-is Ld x p e m ok d)
+            (loaded-byte o (x .df) (x .wd) (start x m) base (m .vec) w long small areBytes (c .from) (c .to) i j
+            (rw (same-bytes (x .df)) at h));
+        others =
+            let s : List ℕ = part w (start x m - base) 16 in
+            changed-others (m .vec) (16 * x .wd .0) (registerIn o (bytes (x .df)) s) (omega arith)
+            (turned-below o (bytes (x .df)) (number s));
+      })
 
 pub loads-bytes : LoadsBytes
-loads-bytes x p e m ok table work d i j h = go (came x p e m ok d)
-  where
-    go : Comes x p e m ok d (e .board .table) (e .table) ⊎ Comes x p e m ok d (e .board .work) (m .work)
-        → ByteAt (e .board .table) (e .table) (addressOf x e m i j)
-        (byteOf (stepOf p e m .after .vec) (x .wd) (elementBytes (x .df)) i j)
-        ⊎ ByteAt (e .board .work) (m .work) (addressOf x e m i j)
-        (byteOf (stepOf p e m .after .vec) (x .wd) (elementBytes (x .df)) i j)
-    go (inl c) = inl (came-byte x p e m ok d (e .board .table) (e .table) table c i j h)
-    go (inr c) = inr (came-byte x p e m ok d (e .board .work) (m .work) work c i j h)
+loads-bytes x p e m ok table work d =
+    ⊎-elim (λ c. inl (came-loaded x p e m ok d (e .board .table) (e .table) table c))
+    (λ c. inr (came-loaded x p e m ok d (e .board .work) (m .work) work c)) (came x p e m ok d)
 
 -- a store at the address a
 record Went (x : Access) (p : List ℕ) (e : Env) (m : Machine) (a : ℕ) : Type 0 where
@@ -277,25 +284,25 @@ record Went (x : Access) (p : List ℕ) (e : Env) (m : Machine) (a : ℕ) : Type
       (plan.Store a (register (turned (e .board .order) (bytes (x .df)) (registerAt (m .vec) (x .wd))))) m
 
 went : (x : Access) (p : List ℕ) (e : Env) (m : Machine) (ok : refusal p e m ≡ Accepted) (d : Done St x p e m)
-    → Went x p e m (start St x p e m ok d)
-went x p e m ok d = go (spot St x p e m ok d) refl (finishes St x p e m ok d) (done-is St x p e m ok d)
+    → Went x p e m (start x m)
+went x p e m ok d = go (spot x e m) refl (finishes St x p e m ok d) (done-is St x p e m ok d)
   where
-    go : (s : Spot) → spot St x p e m ok d ≡ s
-        → outcomeOf (stored s (e .board .order) (x .df) (start St x p e m ok d) (registerAt (m .vec) (x .wd)))
+    go : (s : Spot) → spot x e m ≡ s
+        → outcomeOf (stored s (e .board .order) (x .df) (start x m) (registerAt (m .vec) (x .wd)))
         ≡ Finished
         → stepOf p e m
         ≡ concluded (e .board .work)
-        (stored s (e .board .order) (x .df) (start St x p e m ok d) (registerAt (m .vec) (x .wd))) m
-        → Went x p e m (start St x p e m ok d)
+        (stored s (e .board .order) (x .df) (start x m) (registerAt (m .vec) (x .wd))) m
+        → Went x p e m (start x m)
     go (Table k) q f r = let z : _≡_ {A = ℕ} 0 1 = cc in absurd (omega arith)
     go (Work k) q f r =
-        let h = spot-work (e .board) (length (e .table)) (length (m .work)) (start St x p e m ok d) k q in
+        let h = spot-work (e .board) (length (e .table)) (length (m .work)) (start x m) k q in
         record { from = h .0; to = h .1; found = q ∙ ap Work (h .2); is = r }
     go (Outside y) q f r = let z : _≡_ {A = ℕ} 0 1 = cc in absurd (omega arith)
 
 pub stores-bytes : StoresBytes
 stores-bytes x p e m ok areBytes d =
-    let a : ℕ = start St x p e m ok d in
+    let a : ℕ = start x m in
     let t : Went x p e m a = went x p e m ok d in
     rw (t .is)
     (record {
@@ -315,40 +322,41 @@ stored-back : (o : Order) (df : Width) (w : List ℕ) (at x : ℕ) → at + 16 �
     → registerIn o (bytes df) (part (replaced w at (bytesOf 16 (value (register (turned o (bytes df) x))))) at 16) ≡ x
 stored-back o df w at x fits small =
     let n : ℕ = bytes df in
-    let t : ℕ = turned o n x in
-    let s : List ℕ = bytesOf 16 t in
-    let long = length-bytesOf 16 t in
+    let s : List ℕ = bytesIn o n x in
+    let long = length-bytesOf 16 (turned o n x) in
     let kept : part (replaced w at s) at 16 ≡ s =
     ap (part (replaced w at s) at) (sym long) ∙ part-replaced w at s (omega (arith, long)) in
-    rw (value-exact (turned-below o n x), kept, number-bytesOf 16 t, mod-eq-of-lt (turned-below o n x))
-    (turned-twice o n (sixteen df .0) x (sixteen df .1) ∙ mod-eq-of-lt small)
+    rw (value-exact (turned-below o n x), kept) (stands-back o n (elements df) x (sixteen df) ∙ mod-eq-of-lt small)
 
 pub gives-back : GivesBack
-gives-back x y p e m ok areBytes d g same at =
+unfolding registerAt withRegister
+gives-back x y p e m ok areBytes d g same at b h =
     let o : Order = e .board .order in
     let m₁ : Machine = stepOf p e m .after in
     let ok₁ : refusal p e m₁ ≡ Accepted = stays-accepted p e m ok (d .finished) in
-    let a : ℕ = start St x p e m ok d in
+    let a : ℕ = start x m in
     let i : ℕ = a - e .board .work in
+    let held : List ℕ = part (m .vec) (16 * x .wd .0) 16 in
     let v : ℕ = registerAt (m .vec) (x .wd) in
+    let below : v < 2 ^ 128 =
+    registerAt-below (m .vec) (x .wd) areBytes (accepted p e m ok .vectors) (register-small St x p e m ok d) in
     let t : Went x p e m a = went x p e m ok d in
     let put : List ℕ = bytesOf 16 (value (register (turned o (bytes (x .df)) v))) in
     let size = length-bytesOf 16 (value (register (turned o (bytes (x .df)) v))) in
     let work : m₁ .work ≡ replaced (m .work) i put = ap (λ (r : Result). r .after .work) (t .is) in
     let long : length (m₁ .work) ≡ length (m .work) =
     ap length work ∙ length-replaced (m .work) i put (omega (arith, size, t .from, t .to)) in
-    let again : start Ld y p e m₁ ok₁ g ≡ a =
-    sym (first-is Ld y p e m₁ ok₁ g) ∙ sym at ∙ first-is St x p e m ok d in
-    let found : spot Ld y p e m₁ ok₁ g ≡ Work i = rw (again, long) (t .found) in
-    let below : v < 2 ^ 128 =
-    registerAt-below (m .vec) (x .wd) areBytes (accepted p e m ok .vectors) (register-small St x p e m ok d) in
+    let again : start y m₁ ≡ a = sym (first-is Ld y p e m₁ ok₁ g) ∙ sym at ∙ first-is St x p e m ok d in
+    let found : spot y e m₁ ≡ Work i = rw (again, long) (t .found) in
     let back : registerIn o (bytes (y .df)) (part (m₁ .work) i 16) ≡ v =
     rw (← same, work) (stored-back o (x .df) (m .work) i v (omega (arith, t .from, t .to)) below) in
     let ends : stepOf p e m₁ ≡ concluded (e .board .work) (writes (y .wd) v) m₁ =
     done-is Ld y p e m₁ ok₁ g
     ∙ ap (λ s. concluded (e .board .work) (loaded s o (y .df) (y .wd) (e .table) (m₁ .work)) m₁) found
     ∙ ap (λ z. concluded (e .board .work) (writes (y .wd) z) m₁) back in
-    ap (λ (r : Result). registerAt (r .after .vec) (y .wd)) ends
-    ∙ withRegister-same (m₁ .vec) (y .wd) (value (register v)) (accepted p e m₁ ok₁ .vectors)
-    (register-small Ld y p e m₁ ok₁ g)
-    ∙ rw (value-exact below) (mod-eq-of-lt below)
+    let long₁ = accepted p e m₁ ok₁ .vectors in
+    let small₁ = register-small Ld y p e m₁ ok₁ g in
+    ap (λ (r : Result). getD (r .after .vec) (16 * y .wd .0 + b) 0) ends
+    ∙ changed-byte (m₁ .vec) (16 * y .wd .0) v (omega (arith, long₁, small₁)) below b h
+    ∙ byte-in held (part-bytes (m .vec) (16 * x .wd .0) 16 areBytes) b
+    ∙ getD-part (m .vec) (16 * x .wd .0) 16 b h

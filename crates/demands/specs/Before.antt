@@ -5,21 +5,19 @@ use mathlib.Core.List.{List}
 use Prim.Native.Nat.{ℕ}
 use lib.ListN.{length}
 use Rattle.isa.specs.declared.Instr.{Instr}
-use Rattle.isa.specs.declared.Instr.the-variants as instr
 use Rattle.isa.specs.declared.Memory.{Memory}
 use Rattle.isa.specs.declared.Memory.the-variants.{Ld, St}
 use Rattle.isa.specs.declared.Read.{Read}
 use Rattle.isa.specs.declared.Read.the-variants as read
 use Rattle.isa.specs.declared.Vreg.{Vreg}
+use Rattle.isa.specs.declared.Width.{Width}
 use Rattle.memory.specs.Bytes.{part, number}
 use Rattle.memory.specs.File.{registerAt}
 use Rattle.memory.specs.Value.{register}
-use Rattle.ops.specs.Meaning.{memoryAt}
 use Rattle.order.specs.declared.Order.the-variants.{Little}
 use Rattle.plan.specs.declared.Plan.{Plan}
 use Rattle.plan.specs.declared.Plan.the-variants as plan
-use Rattle.plan.specs.Numbers.{address}
-use Rattle.plan.specs.Plan.{executed, generalAt, writes, kindOf, early, unless}
+use Rattle.plan.specs.Plan.{executedBy, writes, kindOf, early, unless}
 use Rattle.reading.specs.Reading.{readOf}
 use Rattle.state.specs.declared.fetch.Fetched.{Fetched}
 use Rattle.state.specs.declared.fetch.Fetched.the-variants as fetch
@@ -41,39 +39,15 @@ storedBefore (Table i) a x = plan.Stop (ReadOnly a)
 storedBefore (Work i) a x = plan.Store a (register x)
 storedBefore (Outside y) a x = plan.Stop (NoWindow y)
 
-abbrev pub accessedBefore : Memory → Env → Machine → Vreg → ℕ → Plan
-accessedBefore Ld e m wd a =
+abbrev pub accessedBefore : Env → Machine → Memory → Width → Vreg → ℕ → Plan
+accessedBefore e m Ld df wd a =
     loadedBefore (spotOf (e .board) (length (e .table)) (length (m .work)) a) wd (e .table) (m .work)
-accessedBefore St e m wd a =
+accessedBefore e m St df wd a =
     storedBefore (spotOf (e .board) (length (e .table)) (length (m .work)) a) a (registerAt (m .vec) wd)
 
-abbrev pub executedBefore : Env → Machine → Instr → Plan
-executedBefore e m (instr.Three k df wd ws wt) = executed e m (instr.Three k df wd ws wt)
-executedBefore e m (instr.Indexed k df wd ws rt) = executed e m (instr.Indexed k df wd ws rt)
-executedBefore e m (instr.Imm5U k df wd ws imm) = executed e m (instr.Imm5U k df wd ws imm)
-executedBefore e m (instr.Imm5S k df wd ws imm) = executed e m (instr.Imm5S k df wd ws imm)
-executedBefore e m (instr.Ldi df wd imm) = executed e m (instr.Ldi df wd imm)
-executedBefore e m (instr.Bit k df wd ws b) = executed e m (instr.Bit k df wd ws b)
-executedBefore e m (instr.Imm8 k wd ws imm) = executed e m (instr.Imm8 k wd ws imm)
-executedBefore e m (instr.Shf df wd ws imm) = executed e m (instr.Shf df wd ws imm)
-executedBefore e m (instr.Element k df wd ws n) = executed e m (instr.Element k df wd ws n)
-executedBefore e m (instr.Insve df wd n ws) = executed e m (instr.Insve df wd n ws)
-executedBefore e m (instr.Copy k df rd ws n) = executed e m (instr.Copy k df rd ws n)
-executedBefore e m (instr.Insert df wd n rs) = executed e m (instr.Insert df wd n rs)
-executedBefore e m (instr.Move wd ws) = executed e m (instr.Move wd ws)
-executedBefore e m (instr.Cfcmsa rd cs) = executed e m (instr.Cfcmsa rd cs)
-executedBefore e m (instr.Ctcmsa cd rs) = executed e m (instr.Ctcmsa cd rs)
-executedBefore e m (instr.Vec k wd ws wt) = executed e m (instr.Vec k wd ws wt)
-executedBefore e m (instr.Fill df wd rs) = executed e m (instr.Fill df wd rs)
-executedBefore e m (instr.Count k df wd ws) = executed e m (instr.Count k df wd ws)
-executedBefore e m (instr.Memory k df wd offset rs) =
-    accessedBefore (memoryAt (k .0)) e m wd (address df offset (generalAt (m .gen) rs))
-executedBefore e m (instr.Branch k df wt offset) = executed e m (instr.Branch k df wt offset)
-executedBefore e m (instr.BranchV k wt offset) = executed e m (instr.BranchV k wt offset)
-executedBefore e m (instr.Scaled k rd rs rt sa) = executed e m (instr.Scaled k rd rs rt sa)
-
 abbrev pub planBefore : Env → Machine → Instr → Plan
-planBefore e m i = unless (early (kindOf i) (m .ctl .mark) (m .ctl .on)) (executedBefore e m i)
+planBefore e m i =
+    unless (early (kindOf i) (m .ctl .mark) (m .ctl .on)) (executedBy (accessedBefore e m) m i)
 
 abbrev pub decidedBefore : Read → Env → Machine → Result
 decidedBefore (read.Not u) e m = stops (Unread u) m

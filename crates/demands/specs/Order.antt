@@ -14,7 +14,6 @@ use Rattle.isa.specs.declared.Read.the-variants as read
 use Rattle.isa.specs.declared.Vreg.{Vreg}
 use Rattle.isa.specs.declared.Width.{Width}
 use Rattle.memory.specs.Bytes.{AreBytes}
-use Rattle.memory.specs.File.{registerAt}
 use Rattle.ops.specs.Meaning.{memoryAt}
 use Rattle.order.specs.declared.Order.{Order}
 use Rattle.order.specs.declared.Order.the-variants.{Little, Big}
@@ -41,6 +40,10 @@ IsByte n i j = (n * i + j < 16) × (j < n)
 abbrev pub byteOf : List ℕ → Vreg → ℕ → ℕ → ℕ → ℕ
 byteOf file r n i j = getD file (16 * r .0 + (n * i + j)) 0
 
+-- byte b of the vector file is one of register r
+abbrev pub OfRegister : Vreg → ℕ → Type 0
+OfRegister r b = (16 * r .0 ≤ b) × (b < 16 * r .0 + 16)
+
 -- the byte at address x of a window with bytes w from base is b
 abbrev pub ByteAt : ℕ → List ℕ → ℕ → ℕ → Type 0
 ByteAt base w x b = Inside base (length w) x × (getD w (x - base) 0 ≡ b)
@@ -65,19 +68,24 @@ pub record Done (o : Memory) (x : Access) (p : List ℕ) (e : Env) (m : Machine)
 abbrev pub firstOf : Access → Machine → ℕ
 firstOf x m = addressFrom (general m (x .rs)) (x .s10) (elementBytes (x .df))
 
--- the address of a byte of an element
+-- the address of a byte of an element; no window passes 2^64, so none of a finished step does
 abbrev pub addressOf : Access → Env → Machine → ℕ → ℕ → ℕ
 addressOf x e m i j = firstOf x m + offset (e .board .order) (elementBytes (x .df)) i j
 
--- LD: each byte of the register is the one at its address, in the table or in the work window
+-- LD from a window with bytes w from base: each byte of the register is the one at its address, and every byte of the
+-- other registers is as it was
+pub record Loaded (x : Access) (e : Env) (m m′ : Machine) (base : ℕ) (w : List ℕ) : Type 0 where
+  pub each : (i j : ℕ) → IsByte (elementBytes (x .df)) i j
+      → ByteAt base w (addressOf x e m i j) (byteOf (m′ .vec) (x .wd) (elementBytes (x .df)) i j)
+  pub others : (b : ℕ) → Not (OfRegister (x .wd) b) → getD (m′ .vec) b 0 ≡ getD (m .vec) b 0
+
+-- all sixteen from the table, or all from the work window
 abbrev pub LoadsBytes : Type 0
 LoadsBytes =
     (x : Access) (p : List ℕ) (e : Env) (m : Machine) → refusal p e m ≡ Accepted → AreBytes (e .table)
-    → AreBytes (m .work) → Done Ld x p e m → (i j : ℕ) → IsByte (elementBytes (x .df)) i j
-    → ByteAt (e .board .table) (e .table) (addressOf x e m i j)
-    (byteOf (stepOf p e m .after .vec) (x .wd) (elementBytes (x .df)) i j)
-    ⊎ ByteAt (e .board .work) (m .work) (addressOf x e m i j)
-    (byteOf (stepOf p e m .after .vec) (x .wd) (elementBytes (x .df)) i j)
+    → AreBytes (m .work) → Done Ld x p e m
+    → Loaded x e m (stepOf p e m .after) (e .board .table) (e .table)
+    ⊎ Loaded x e m (stepOf p e m .after) (e .board .work) (m .work)
 
 -- ST: each byte of the register stands at its address in the work window, and every other byte there is as it was
 pub record Stored (x : Access) (e : Env) (m m′ : Machine) : Type 0 where
@@ -97,4 +105,5 @@ GivesBack =
     (x y : Access) (p : List ℕ) (e : Env) (m : Machine) → refusal p e m ≡ Accepted → AreBytes (m .vec)
     → Done St x p e m → Done Ld y p e (stepOf p e m .after)
     → x .df ≡ y .df → firstOf x m ≡ firstOf y (stepOf p e m .after)
-    → registerAt (stepOf p e (stepOf p e m .after) .after .vec) (y .wd) ≡ registerAt (m .vec) (x .wd)
+    → (b : ℕ) → b < 16
+    → getD (stepOf p e (stepOf p e m .after) .after .vec) (16 * y .wd .0 + b) 0 ≡ getD (m .vec) (16 * x .wd .0 + b) 0

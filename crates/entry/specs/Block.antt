@@ -37,7 +37,8 @@ unfoldable pub decoded : List ℕ → Control
 decoded b =
     cond (eqb (length b) 24) (cond (leb (byte b 22) 1 && leb (byte b 23) 1) (byMark b (field b 20 2)) broken) broken
 
--- the byte order that lent bytes name: 0 little-endian, 1 big-endian
+-- the byte order that lent bytes name: 0 little-endian, 1 big-endian; with another number they are no block, and are
+-- refused, so it does not count what they name
 unfoldable pub ordered : List ℕ → Order
 ordered b = cond (eqb (byte b 23) 1) Big Little
 

@@ -78,7 +78,7 @@ pub fn control_of(b: &[u8]) -> Control
     }
 }
 
-// The byte order that the block names.
+// The byte order that the block names; of bytes that are no block it does not count, since they are refused.
 pub fn order_of(b: &[u8]) -> Order
     ensures { λ r. ⌜ r ≡ ordered (now (b .entry)) ⌝ }
 {

@@ -68,7 +68,8 @@ pub extern "C" fn msa_step(
     ensures { λ r. ⌜ StepsTo (wholeStep (now (program .entry))
         (env (board (ordered (now (control .entry))) «program_base» «table_base» «work_base») (now (table .entry)))
         (machine (now (vectors .entry)) (now (generals .entry)) (now (work .entry)) (decoded (now (control .entry)))))
-        r (now (vectors .exit)) (now (generals .exit)) (now (work .exit)) (now (control .entry)) (now (control .exit)) ⌝ }
+        r (now (vectors .exit)) (now (generals .exit)) (now (work .exit)) (now (control .entry))
+        (now (control .exit)) ⌝ }
 {
     let board = board_of(program_base, table_base, work_base, control);
     let c = block::control_of(control);
@@ -98,9 +99,11 @@ pub extern "C" fn msa_run(
     budget: u32,
 ) -> MsaEnded
     ensures { λ r. ⌜ RunsTo (wholeRun (now (program .entry))
-        (env (board (ordered (now (control .entry))) «program_base» «table_base» «work_base») (now (table .entry))) budget
+        (env (board (ordered (now (control .entry))) «program_base» «table_base» «work_base») (now (table .entry)))
+        budget
         (machine (now (vectors .entry)) (now (generals .entry)) (now (work .entry)) (decoded (now (control .entry)))))
-        r (now (vectors .exit)) (now (generals .exit)) (now (work .exit)) (now (control .entry)) (now (control .exit)) ⌝ }
+        r (now (vectors .exit)) (now (generals .exit)) (now (work .exit)) (now (control .entry))
+        (now (control .exit)) ⌝ }
 {
     let board = board_of(program_base, table_base, work_base, control);
     let c = block::control_of(control);

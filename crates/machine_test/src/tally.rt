@@ -46,7 +46,7 @@ fn name(group: u8) {
             io::write_all(1, b"why");
         }
         _ => {
-            io::write_all(1, b"big-endian");
+            io::write_all(1, b"byte order");
         }
     }
 }

@@ -1,4 +1,5 @@
 pub mod ByteLaws
+pub mod Every
 pub mod OrderLaws
 pub mod MovedLaws
 pub mod TurnLaws

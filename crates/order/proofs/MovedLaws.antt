@@ -1,19 +1,20 @@
 -- Bytes of a word under the operations that turn it: bitwise ones go byte by byte, shifts by whole bytes move them; and
 -- what a word comes to whose bytes were moved twice. Assumes nothing.
-use mathlib.Core.Path.{_≡_, refl, sym, ap, ap₂, _∙_}
+use mathlib.Core.Path.{_≡_, sym, ap, ap₂, _∙_}
 use mathlib.Core.Bool.{Bool, true, false, cond, not}
-use Prim.Native.Nat.{ℕ, zero, suc, _+_, _-_, _*_, _/_, _%_, _^_, _<_}
+use Prim.Native.Nat.{ℕ, _+_, _-_, _*_, _/_, _%_, _^_, _<_}
 use native.Mathlib.Decide.{decLt}
 use native.Mathlib.Nat.{mod-lt, mod-add-div', mod-eq-of-lt, div-eq-of-lt, add-mul-div-right}
 use native.Mathlib.Omega.{arith}
-use borrow.Author.Tests.{eqb-true, eq-eqb, ne-eqb}
-use lib.Dec.{eqb}
+use borrow.Author.Tests.{eqb-true, ltb-true, eq-eqb, ne-eqb}
+use lib.Dec.{eqb, ltb}
 use lib.Bits.{bitAnd, bitOr, and-shr, or-shr, and-mod, or-mod, and-le-l, or-lt, and-mask}
 use lib.Bits.{and-zero-r, or-zero-l, or-zero-r}
 use lib.Pow.{pow-pos, shr-le}
 use Rattle.vectors.specs.Register.{element, build}
 use Rattle.vectors.proofs.ElementLaws.{element-below, element-low, element-high, build-element, build-same}
 use Rattle.order.proofs.ByteLaws.{shifted-down, nothing}
+use Rattle.order.proofs.Every.{every, every-at}
 use Rattle.order.specs.Moved.{lower, neighbour, Lower, Moved}
 
 -- ---- bytes of words
@@ -49,7 +50,7 @@ masked x m n b l h = op-byte bitAnd and-shr and-mod x m b ∙ ap (bitAnd (elemen
     go true = and-mask (element 8 x b) 8 ∙ mod-eq-of-lt (element-below 8 x b)
     go false = and-zero-r (element 8 x b)
 
--- of a number and the next one is even
+-- of a number and the next, one is even
 parity : (q : ℕ) → eqb ((q + 1) % 2) 0 ≡ not (eqb (q % 2) 0)
 parity q = go (decLt (q % 2) 1)
   where
@@ -107,36 +108,29 @@ exchanges x n m some l small = record { below = within; at = byte }
 
 -- ---- words whose bytes were moved
 
--- numbers, tried one by one
-abbrev pub tried : (ℕ → ℕ) → (ℕ → ℕ) → ℕ → Bool
-tried f g zero = true
-tried f g (suc n) = cond (eqb (f n) (g n)) (tried f g n) false
+-- whether two numberings of the bytes of a word are the same
+abbrev pub tried : (ℕ → ℕ) → (ℕ → ℕ) → Bool
+tried f g = every 8 (λ b. eqb (f b) (g b))
 
-pub alike : (f g : ℕ → ℕ) (n : ℕ) → tried f g n ≡ true → (b : ℕ) → b < n → f b ≡ g b
-alike f g zero t b h = absurd (omega arith)
-alike f g (suc n) t b h = go (eqb (f n) (g n)) refl t (alike f g n) (decLt b n)
-  where
-    go : (last : Bool) → eqb (f n) (g n) ≡ last → cond last (tried f g n) false ≡ true
-        → (tried f g n ≡ true → (b : ℕ) → b < n → f b ≡ g b) → Dec (b < n) → f b ≡ g b
-    go true e t before (yes l) = before t b l
-    go true e t before (no l) = let same : b ≡ n = omega arith in rw same (eqb-true (f n) (g n) e)
-    go false e t before l = let z : _≡_ {A = ℕ} 0 1 = cc in absurd (omega arith)
+alike : (f g : ℕ → ℕ) → tried f g ≡ true → (b : ℕ) → b < 8 → f b ≡ g b
+alike f g t b h = eqb-true (f b) (g b) (every-at 8 (λ b. eqb (f b) (g b)) t b h)
 
 -- places of a word
-pub places : (f : ℕ → ℕ) → tried (λ b. f b / 8) (λ b. 0) 8 ≡ true → (b : ℕ) → b < 8 → f b < 8
-places f t b h = let e = alike (λ b. f b / 8) (λ b. 0) 8 t b h in omega (arith, e)
+abbrev pub inWord : (ℕ → ℕ) → Bool
+inWord f = every 8 (λ b. ltb (f b) 8)
 
-pub moved-by : {x y : ℕ} (f g : ℕ → ℕ) → tried f g 8 ≡ true → Moved x f y → Moved x g y
-moved-by {x} f g t a = record { below = a .below; at = λ b h. a .at b h ∙ ap (element 8 x) (alike f g 8 t b h) }
+pub moved-by : {x y : ℕ} (f g : ℕ → ℕ) → tried f g ≡ true → Moved x f y → Moved x g y
+moved-by {x} f g t a = record { below = a .below; at = λ b h. a .at b h ∙ ap (element 8 x) (alike f g t b h) }
 
 -- moved by f, and what came of it by g
-pub moved-on : {x y z : ℕ} (f g k : ℕ → ℕ) → tried (λ b. g b / 8) (λ b. 0) 8 ≡ true → tried (λ b. f (g b)) k 8 ≡ true
+pub moved-on : {x y z : ℕ} (f g k : ℕ → ℕ) → inWord g ≡ true → tried (λ b. f (g b)) k ≡ true
     → Moved x f y → Moved y g z → Moved x k z
 moved-on f g k p t a b =
-    moved-by (λ b. f (g b)) k t (record { below = b .below; at = λ i h. b .at i h ∙ a .at (g i) (places g p i h) })
+    let places : (i : ℕ) → i < 8 → g i < 8 = λ i h. ltb-true (g i) 8 (every-at 8 (λ b. ltb (g b) 8) p i h) in
+    moved-by (λ b. f (g b)) k t (record { below = b .below; at = λ i h. b .at i h ∙ a .at (g i) (places i h) })
 
-pub lower-by : (n m : ℕ) → tried (element 8 m) (λ b. cond (lower n b) 255 0) 8 ≡ true → Lower n m
-lower-by n m t = record { at = alike (element 8 m) (λ b. cond (lower n b) 255 0) 8 t }
+pub lower-by : (n m : ℕ) → tried (element 8 m) (λ b. cond (lower n b) 255 0) ≡ true → Lower n m
+lower-by n m t = record { at = alike (element 8 m) (λ b. cond (lower n b) 255 0) t }
 
 -- a word that was moved is the number with its bytes
 pub moved-built : {x y : ℕ} {f : ℕ → ℕ} → Moved x f y → y ≡ build 8 (λ b. element 8 x (f b)) 8

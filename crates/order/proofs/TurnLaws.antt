@@ -1,10 +1,10 @@
 -- A register is turned a word at a time: no element crosses its two words. Assumes nothing.
 use mathlib.Core.Path.{_≡_, refl, sym, ap, _∙_}
-use Prim.Native.Nat.{ℕ, _+_, _<_}
+use Prim.Native.Nat.{ℕ, _+_, _*_, _/_, _<_}
 use native.Mathlib.Nat.{mod-eq-of-lt}
 use Rattle.isa.specs.declared.Width.{Width}
 use Rattle.isa.specs.declared.Width.the-variants.{B, H, W, D}
-use Rattle.isa.specs.Widths.{bytes}
+use Rattle.isa.specs.Widths.{bits, bytes}
 use Rattle.memory.specs.declared.Register.{Register}
 use Rattle.memory.specs.Value.{value, register, Holds}
 use Rattle.memory.proofs.Values.{Words, value-below, register-value, is-register}
@@ -16,22 +16,26 @@ use Rattle.order.specs.declared.Order.{Order}
 use Rattle.order.specs.declared.Order.the-variants.{Little, Big}
 use Rattle.order.specs.Moved.{Moved}
 use Rattle.order.specs.Order.{place, turned}
-use Rattle.order.proofs.MovedLaws.{alike, places, moved-built}
-use Rattle.order.proofs.OrderLaws.{turned-little}
+use Rattle.order.proofs.MovedLaws.{moved-built}
+use Rattle.order.proofs.OrderLaws.{some, place-within, place-behind, turned-little}
 
--- the bytes of the lower word have their places in it
-low-place : (w : Width) (b : ℕ) → b < 8 → place Big (bytes w) b < 8
-low-place B = places (place Big 1) refl
-low-place H = places (place Big 2) refl
-low-place W = places (place Big 4) refl
-low-place D = places (place Big 8) refl
+-- a word is made of elements of each width
+eight : (w : Width) → bytes w * (64 / bits w) ≡ 8
+eight B = refl
+eight H = refl
+eight W = refl
+eight D = refl
 
--- and those of the upper word theirs, eight on
-high-place : (w : Width) (b : ℕ) → b < 8 → place Big (bytes w) (8 + b) ≡ 8 + place Big (bytes w) b
-high-place B = alike (λ b. place Big 1 (8 + b)) (λ b. 8 + place Big 1 b) 8 refl
-high-place H = alike (λ b. place Big 2 (8 + b)) (λ b. 8 + place Big 2 b) 8 refl
-high-place W = alike (λ b. place Big 4 (8 + b)) (λ b. 8 + place Big 4 b) 8 refl
-high-place D = alike (λ b. place Big 8 (8 + b)) (λ b. 8 + place Big 8 b) 8 refl
+module _ (w : Width) (b : ℕ) where
+  pos : 0 < bytes w
+  pos = some (bytes w) (64 / bits w) 7 (eight w)
+
+  -- the bytes of the lower word have their places in it, and those of the upper word theirs, eight on
+  low-place : b < 8 → place Big (bytes w) b < 8
+  low-place h = rw (eight w) at (place-within (bytes w) pos (64 / bits w) Big b (rw (eight w) h))
+
+  high-place : place Big (bytes w) (8 + b) ≡ 8 + place Big (bytes w) b
+  high-place = rw (eight w) at (place-behind (bytes w) pos (64 / bits w) Big b)
 
 pub little-register : (w : Width) (v : Register) → Words v → v ≡ register (turned Little (bytes w) (value v))
 little-register w v h =
@@ -52,7 +56,7 @@ module _ (w : Width) (v : Register) (h : Words v) where
       (λ b s. sym (value-low (shares B) h (place Big (bytes w) b) (low-place w b s))))
       (moved-built u
       ∙ build-same 8 (λ b. element 8 (v .high) (place Big (bytes w) b)) (λ b. byte (8 + b)) 8
-      (λ b s. sym (ap (element 8 (value v)) (high-place w b s) ∙ value-high (shares B) h (place Big (bytes w) b)))))
+      (λ b s. sym (ap (element 8 (value v)) (high-place w b) ∙ value-high (shares B) h (place Big (bytes w) b)))))
 
 -- what holds a number is turned as that number is
 pub turned-held : (o : Order) (n : ℕ) {v : Register} {x : ℕ} → Holds v x

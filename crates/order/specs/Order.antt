@@ -26,6 +26,12 @@ bytesIn o n x = bytesOf 16 (turned o n x)
 abbrev pub registerIn : Order → ℕ → List ℕ → ℕ
 registerIn o n s = turned o n (number s)
 
--- turning twice changes nothing, in either order and for elements of any size of which a register is made
+-- Of any register, in either order and for elements of any size of which a register is made:
+
+-- turning twice changes nothing
 abbrev pub TurnedTwice : Type 0
 TurnedTwice = (o : Order) (n m x : ℕ) → n * m ≡ 16 → turned o n (turned o n x) ≡ x % 2 ^ 128
+
+-- so the bytes that stand for it stand for nothing else
+abbrev pub StandsBack : Type 0
+StandsBack = (o : Order) (n m x : ℕ) → n * m ≡ 16 → registerIn o n (bytesIn o n x) ≡ x % 2 ^ 128

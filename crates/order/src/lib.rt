@@ -1,6 +1,6 @@
 // The order of bytes in memory. A board keeps an element from its least significant byte on, or from its most
-// significant one. A register is turned a word of 64 bits at a time: neighbouring bytes change places, then neighbouring
-// twos, then fours, as far as an element reaches.
+// significant one. A register is turned a word of 64 bits at a time: neighbouring bytes change places, then
+// neighbouring twos, then fours, as far as an element reaches.
 ghost use mathlib.Core.Path.{_≡_};
 ghost use Prim.Native.Nat.{_<_, _≤_};
 ghost use Rattle.isa.specs.Widths.{bytes};

@@ -81,49 +81,52 @@ abbrev pub marked : Bool → ℕ → Mark
 marked true to = Taken to
 marked false to = NotTaken
 
-abbrev pub executed : Env → Machine → Instr → Plan
-executed e m (instr.Three k df wd ws wt) =
+-- what an instruction does where neither 15 nor 16 applies; f is what a load or a store does, by its format, its
+-- register and its address: no other instruction sees a window
+abbrev pub executedBy : (Memory → Width → Vreg → ℕ → Plan) → Machine → Instr → Plan
+executedBy f m (instr.Three k df wd ws wt) =
     writes wd
     (threeOf (threeAt (k .0)) (bits df) (registerAt (m .vec) wd) (registerAt (m .vec) ws) (registerAt (m .vec) wt))
-executed e m (instr.Indexed k df wd ws rt) =
+executedBy f m (instr.Indexed k df wd ws rt) =
     writes wd
     (indexedOf (indexedAt (k .0)) (bits df) (registerAt (m .vec) wd) (registerAt (m .vec) ws) (generalAt (m .gen) rt))
-executed e m (instr.Imm5U k df wd ws imm) =
+executedBy f m (instr.Imm5U k df wd ws imm) =
     writes wd (imm5Of (imm5At (k .0)) false (bits df) (registerAt (m .vec) ws) imm)
-executed e m (instr.Imm5S k df wd ws imm) =
+executedBy f m (instr.Imm5S k df wd ws imm) =
     writes wd (imm5Of (imm5At (k .0)) true (bits df) (registerAt (m .vec) ws) imm)
-executed e m (instr.Ldi df wd imm) = writes wd (ldi.loaded (bits df) imm)
-executed e m (instr.Bit k df wd ws n) =
+executedBy f m (instr.Ldi df wd imm) = writes wd (ldi.loaded (bits df) imm)
+executedBy f m (instr.Bit k df wd ws n) =
     writes wd (bitOf (bitAt (k .0)) (bits df) (registerAt (m .vec) wd) (registerAt (m .vec) ws) n)
-executed e m (instr.Imm8 k wd ws imm) =
+executedBy f m (instr.Imm8 k wd ws imm) =
     writes wd (imm8Of (logicAt (k .0)) (registerAt (m .vec) wd) (registerAt (m .vec) ws) imm)
-executed e m (instr.Shf df wd ws imm) =
+executedBy f m (instr.Shf df wd ws imm) =
     writes wd (whole (bits df) (chosenByImmediate imm (bits df) (registerAt (m .vec) ws)))
-executed e m (instr.Element k df wd ws n) =
+executedBy f m (instr.Element k df wd ws n) =
     writes wd (indexedOf (indexedAt (k .0)) (bits df) (registerAt (m .vec) wd) (registerAt (m .vec) ws) n)
-executed e m (instr.Insve df wd n ws) =
+executedBy f m (instr.Insve df wd n ws) =
     writes wd
     (whole (bits df) (withElement n (element (bits df) (registerAt (m .vec) ws) 0) (bits df) (registerAt (m .vec) wd)))
-executed e m (instr.Copy k df rd ws n) = plan.General rd (copyOf (copiedAt (k .0)) df (registerAt (m .vec) ws) n)
-executed e m (instr.Insert df wd n rs) =
+executedBy f m (instr.Copy k df rd ws n) = plan.General rd (copyOf (copiedAt (k .0)) df (registerAt (m .vec) ws) n)
+executedBy f m (instr.Insert df wd n rs) =
     writes wd (whole (bits df) (withElement n (generalAt (m .gen) rs) (bits df) (registerAt (m .vec) wd)))
-executed e m (instr.Move wd ws) = writes wd (registerAt (m .vec) ws)
-executed e m (instr.Cfcmsa rd cs) = plan.General rd (controlRead (cs .0) (m .ctl .csr))
-executed e m (instr.Ctcmsa cd rs) = toControl (cd .0) (generalAt (m .gen) rs)
-executed e m (instr.Vec k wd ws wt) =
+executedBy f m (instr.Move wd ws) = writes wd (registerAt (m .vec) ws)
+executedBy f m (instr.Cfcmsa rd cs) = plan.General rd (controlRead (cs .0) (m .ctl .csr))
+executedBy f m (instr.Ctcmsa cd rs) = toControl (cd .0) (generalAt (m .gen) rs)
+executedBy f m (instr.Vec k wd ws wt) =
     writes wd
     (together 1 (logicBit (logicAt (k .0))) (registerAt (m .vec) wd) (registerAt (m .vec) ws) (registerAt (m .vec) wt))
-executed e m (instr.Fill df wd rs) = writes wd (filled (bits df) (generalAt (m .gen) rs))
-executed e m (instr.Count k df wd ws) = writes wd (countOf (countAt (k .0)) (bits df) (registerAt (m .vec) ws))
-executed e m (instr.Memory k df wd offset rs) =
-    accessed (memoryAt (k .0)) df (e .board) (e .table) (m .vec) (m .work) wd
-    (address df offset (generalAt (m .gen) rs))
-executed e m (instr.Branch k df wt offset) =
+executedBy f m (instr.Fill df wd rs) = writes wd (filled (bits df) (generalAt (m .gen) rs))
+executedBy f m (instr.Count k df wd ws) = writes wd (countOf (countAt (k .0)) (bits df) (registerAt (m .vec) ws))
+executedBy f m (instr.Memory k df wd offset rs) = f (memoryAt (k .0)) df wd (address df offset (generalAt (m .gen) rs))
+executedBy f m (instr.Branch k df wt offset) =
     plan.Branch (marked (takenOf (zeroAt (k .0)) df (registerAt (m .vec) wt)) (target (m .ctl .pc) offset))
-executed e m (instr.BranchV k wt offset) =
+executedBy f m (instr.BranchV k wt offset) =
     plan.Branch (marked (takenVOf (zeroAt (k .0)) (registerAt (m .vec) wt)) (target (m .ctl .pc) offset))
-executed e m (instr.Scaled k rd rs rt sa) =
+executedBy f m (instr.Scaled k rd rs rt sa) =
     plan.General rd (scaledOf (scaledAt (k .0)) (generalAt (m .gen) rs) (generalAt (m .gen) rt) sa)
+
+abbrev pub executed : Env → Machine → Instr → Plan
+executed e m i = executedBy (λ o df wd a. accessed o df (e .board) (e .table) (m .vec) (m .work) wd a) m i
 
 -- which of 15 and 16 concern an instruction: both a branch, neither LSA and DLSA, and 16 every other
 abbrev pub kindOf : Instr → Kind

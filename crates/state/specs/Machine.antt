@@ -4,7 +4,7 @@ use mathlib.Core.List.{List}
 use Rattle.state.specs.declared.board.Board.{Board}
 use Rattle.state.specs.declared.control.Control.{Control}
 
--- what no step changes: where things stand, and the bytes of the read-only table
+-- what no step changes: where things stand, the byte order, and the bytes of the read-only table
 pub record Env : Type 0 where
   pub board : Board
   pub table : List ℕ

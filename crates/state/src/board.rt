@@ -1,4 +1,4 @@
-// The board that a kernel runs on, by value: what of a set-up no step changes, but for the table's bytes.
+// The board that a kernel runs on, by value: all that no step changes of a set-up, beside the bytes lent for reading.
 use order::Order;
 
 pub struct Board {

@@ -21,13 +21,13 @@ use Rattle.isa.specs.declared.Read.the-variants as read
 use Rattle.isa.specs.declared.Subtraction.the-variants.{SubsuuS, AsubS}
 use Rattle.isa.specs.declared.Three.the-variants as three
 use Rattle.isa.specs.declared.Vreg.{Vreg}
+use Rattle.isa.specs.declared.Width.{Width}
 use Rattle.isa.specs.declared.Width.the-variants.{B, W, D}
 use Rattle.isa.specs.declared.Written.the-variants.{Word}
 use Rattle.memory.specs.Bytes.{number, bytesOf}
 use Rattle.memory.specs.Value.{register}
 use Rattle.order.specs.declared.Order.{Order}
 use Rattle.order.specs.declared.Order.the-variants.{Little, Big}
-use Rattle.order.specs.Order.{bytesIn}
 use Rattle.ops.specs.Places as place
 use Rattle.ops.specs.Table.{rowAt}
 use Rattle.forms.specs.Forms.{threeOf}
@@ -139,9 +139,9 @@ zeros =
 abbrev counted : ℕ
 counted = 0x0F0E0D0C0B0A09080706050403020100
 
--- ST.D $w1,0($1) and LD.B $w2,0($1)
-abbrev std : Instr
-std = instr.Memory (op (place.minor 36 0)) D ($w 1) 0 ($ 1)
+-- ST $w1,0($1) in a format, and LD.B $w2,0($1)
+abbrev st : Width → Instr
+st df = instr.Memory (op (place.minor 36 0)) df ($w 1) 0 ($ 1)
 
 abbrev ldb : Instr
 ldb = instr.Memory (op (place.minor 32 0)) B ($w 2) 0 ($ 1)
@@ -168,13 +168,17 @@ bigWords = 3 ∷ 2 ∷ 1 ∷ 0 ∷ 7 ∷ 6 ∷ 5 ∷ 4 ∷ 11 ∷ 10 ∷ 9 ∷ 8
 abbrev bigDoubles : List ℕ
 bigDoubles = 7 ∷ 6 ∷ 5 ∷ 4 ∷ 3 ∷ 2 ∷ 1 ∷ 0 ∷ 15 ∷ 14 ∷ 13 ∷ 12 ∷ 11 ∷ 10 ∷ 9 ∷ 8 ∷ []
 
--- what ST.D leaves in the window in big-endian order, and what LD.B then makes of it; a is any address
+-- $w1 is stored as these bytes: the plan has the register of their number, and puts its sixteen bytes
+abbrev stored : ℕ → Order → Width → List ℕ → Sum
+stored a o df s =
+    sum (planOf (board o) (at a oneCounted first (replicate 16 0)) (st df)) (plan.Store 0x1000 (register (number s)))
+
+-- Table 3.1 for either order; a store in D, and what a load in B makes of its bytes; a is any address
 abbrev pub orders : ℕ → List Sum
 orders a =
-    sum (bytesIn Little 4 counted) littleWords
-    ∷ sum (bytesIn Big 4 counted) bigWords
-    ∷ sum (planOf (board Big) (at a oneCounted first (replicate 16 0)) std)
-    (plan.Store 0x1000 (register (number bigDoubles)))
+    stored a Little W littleWords
+    ∷ stored a Big W bigWords
+    ∷ stored a Big D bigDoubles
     ∷ sum (planOf (board Big) (at a oneCounted first bigDoubles) ldb)
     (plan.Vector ($w 2) (register 0x08090A0B0C0D0E0F0001020304050607))
     ∷ []

@@ -206,7 +206,7 @@ module _ {M : Type 1} (𝓤 : URA M) (H : Heap 𝓤) (A : Atoms 𝓤) (W : Given
         move ! (41 ∷ []) $ split ! $ move ! (1 ∷ []) $ split ! $ move ! (1 ∷ []) $ split ! $ move ! (1 ∷ []) $ split ! $ move ! (1 ∷ []) $ split ! $ move ! (1 ∷ []) $ split ! $
         move ! (7 ∷ 8 ∷ 0 ∷ []) $ opens ! tt T.the-row {h = h} b o (λ vs. spelt ! T.the-row (Is T.the-row) (shows 𝓤 H A T.the-row) (LL.vals T.the-type T′.the-laws) (LL.tells T.the-type T′.the-laws) fullShare h vs b o $
         move ! (1 ∷ []) $ peeks ! T.the-row (Is T.the-row) (shows 𝓤 H A T.the-row) h (LL.vals T.the-type T′.the-laws h) (λ was. move ! (1 ∷ 0 ∷ []) $
-        -- [the block's cell; what the old block owns; the open borrow; obs; auth; true; k₄; k₃; k₂; k₁; k₀; true; work's; generals'; vectors'; table's; program's; board'; _15; …]: the block is read
+        -- [the block's cell; what the old block owns; the open borrow; obs; auth; true; k₄; k₃; k₂; k₁; k₀; true; work's; generals'; vectors'; table's; program's; board's; _15; …]: the block is read
         use1 W (‵ (fat fullShare T′.mir b o (mach h))) (W .laws .raw-at fullShare T′.mir b o (mach h)) $
         assigns ! (of-opd ! (load ! (from ! (hop ! (look ! 34 refl) (stop !))) (look ! 0 refl))) (from ! (stop !)) (init ! 18 refl (LL.lawful T.the-type T′.the-laws 𝓤 H A W .typed h _ was .0)) $
         use1 W (‵ (cellAt fullShare (T.the-row .mir) (mach h ∷ []) b o)) (W .laws .at-raw fullShare T′.mir b o (mach h)) $
