@@ -1,6 +1,7 @@
 /* Replays the shared cases of steps and runs (vectors/FORMAT.md) through the C entry
  * and compares the reason, the count, the missing address and every lent byte; then the
- * control block's own limits, loads and stores in both byte orders, and every way to arm a trap.
+ * control block's own limits, loads and stores in both byte orders, the fixed-point multiplies,
+ * and every way to arm a trap.
  * Usage: replay FILE.. ; ends with status 1 where anything differs.
  *
  * Each case is run in up to three ways: as it stands; with a target that a mark other than 2
@@ -11,8 +12,8 @@
  * that nothing may touch behind every slice and once with one before it: there a wrong access ends the program.
  *
  * A case is lent in the byte order that its rules name. Cases of a rule that the archive does not have are left out and
- * counted: those of the fixed-point multiplies. Division by zero is that of the boards: of cases with the other rule
- * some differ.
+ * counted: those without the rule of the fixed-point multiplies that have a word of one. Division by zero is that of
+ * the boards: of cases with the other rule some differ.
  */
 #define _DEFAULT_SOURCE /* MAP_ANONYMOUS */
 #include <inttypes.h>
@@ -289,18 +290,20 @@ static int agrees(const struct test *t, char how, struct bytes control, struct b
     return fine && part == NULL;
 }
 
-/* MUL_Q, MADD_Q, MSUB_Q, MULR_Q, MADDR_Q or MSUBR_Q */
-static int multiplies_fixed(uint32_t word) {
+/* Table 4.7, the six fixed-point multiplies: the opcodes, and the operations in bits 25 to 22; ROUNDED is added */
+enum { FIXED_POINT = 0x7800001C, MUL_Q = 4, MADD_Q = 5, MSUB_Q = 6, ROUNDED = 8 };
+
+static int is_fixed_point(uint32_t word) {
     uint32_t operation = word >> 22 & 7;
-    return word >> 26 == 0x1E && (word & 63) == 0x1C && operation >= 4 && operation <= 6;
+    return (word & 0xFC00003F) == FIXED_POINT && operation >= MUL_Q && operation <= MSUB_Q;
 }
 
-/* whether a case needs a rule that the archive does not have: a step by its word, a run by any word */
-static int left_out(const struct test *t) {
-    if (!t->fixed) return 0;
-    if (!t->run) return multiplies_fixed(word_at(t, t->before.control));
+/* whether a case without the rule of the fixed-point multiplies has a word of one: a step at its counter, a run any */
+static int is_outdated(const struct test *t) {
+    if (t->fixed) return 0;
+    if (!t->run) return is_fixed_point(word_at(t, t->before.control));
     for (size_t i = 0; i + 4 <= t->program.n; i += 4)
-        if (multiplies_fixed((uint32_t)get(t->program.at + i, 4))) return 1;
+        if (is_fixed_point((uint32_t)get(t->program.at + i, 4))) return 1;
     return 0;
 }
 
@@ -341,7 +344,7 @@ static void replay(const char *name) {
             sscanf(line, "case %63s %7s", t.name, kind);
             t.run = !strcmp(kind, "run");
         } else if (!strcmp(line, "end")) {
-            if (left_out(&t)) {
+            if (is_outdated(&t)) {
                 out++;
                 continue;
             }
@@ -593,6 +596,101 @@ static void round_trips(void) {
     printf("stores and then loads: %u of %u cases agree\n", agree, cases);
 }
 
+/* the number of an element of 2 or 4 bytes, with its sign */
+static int64_t element(const uint8_t *at, unsigned bytes) {
+    int64_t one = INT64_C(1) << (8 * bytes - 1);
+    return ((int64_t)get(at, bytes) ^ one) - one;
+}
+
+/* the quotient by a number above 0, not above the exact one */
+static int64_t floored(int64_t x, int64_t by) { return x / by - (x % by < 0); }
+
+/* What one of the six leaves in an element of n bits: q_mul, q_madd and q_msub of the manual. Elements are from -one to
+ * one - 1. So the sum is at the least -one * one - one * one, and at the most (one - 1) * one + one * one + one / 2,
+ * which is 2 * one * one less one / 2: for n = 32 from -2^63 to 2^63 - 2^30, and an int64_t has all of these. No part
+ * of it is further from 0 than 2^62, and the half is added last.
+ */
+static int64_t multiplied(unsigned operation, unsigned n, int64_t d, int64_t s, int64_t t) {
+    int64_t one = INT64_C(1) << (n - 1), half = operation & ROUNDED ? one / 2 : 0, product = s * t, sum;
+    switch (operation & 7) {
+    case MUL_Q: return s == -one && t == -one ? one - 1 : floored(product + half, one);
+    case MADD_Q: sum = d * one + product; break;
+    default: sum = d * one - product;
+    }
+    sum = floored(sum + half, one);
+    return sum < -one ? -one : sum >= one ? one - 1 : sum;
+}
+
+enum { CORNERS = 12, OLDS = 5 };
+
+/* the ends, the numbers about 0, and those whose product by 1, 3 or -1 is half a step, one and a half, or nearly so */
+static int64_t corner(unsigned n, unsigned k) {
+    int64_t one = INT64_C(1) << (n - 1), half = one / 2;
+    int64_t all[CORNERS] = {-one, 1 - one, -half - 1, -half, -1, 0, 1, 3, half - 1, half, half + 1, one - 1};
+    return all[k % CORNERS];
+}
+
+/* puts into the lanes of three registers the k-th of old element and pair of corners, and those behind it */
+static void put_corners(uint8_t *vectors, unsigned bytes, unsigned k, unsigned wd, unsigned ws, unsigned wt) {
+    static const unsigned olds[OLDS] = {0, 4, 5, 6, CORNERS - 1};
+    for (unsigned i = 0; i < 16; i += bytes, k++) {
+        put(vectors + 16 * wd + i, bytes, (uint64_t)corner(8 * bytes, olds[k / CORNERS / CORNERS % OLDS]));
+        put(vectors + 16 * ws + i, bytes, (uint64_t)corner(8 * bytes, k / CORNERS));
+        put(vectors + 16 * wt + i, bytes, (uint64_t)corner(8 * bytes, k));
+    }
+}
+
+/* puts the word, and what it leaves in $wd */
+static void put_multiply(struct test *t, unsigned operation, unsigned format, unsigned wd, unsigned ws, unsigned wt) {
+    unsigned bytes = 1u << format;
+    put(t->program.at, 4, FIXED_POINT | operation << 22 | (format - 1) << 21 | wt << 16 | ws << 11 | wd << 6);
+    t->after = copies(&t->before);
+    for (unsigned i = 0; i < 16; i += bytes) {
+        const uint8_t *lane = t->before.vectors.at + i;
+        int64_t d = element(lane + 16 * wd, bytes), s = element(lane + 16 * ws, bytes);
+        int64_t after = multiplied(operation, 8 * bytes, d, s, element(lane + 16 * wt, bytes));
+        put(t->after.vectors.at + 16 * wd + i, bytes, (uint64_t)after);
+    }
+    put(t->after.control.at + MSA_CONTROL_PC, 8, 0x1004);
+}
+
+/* One of the six in a format of its two: on all pairs of corners beside all old elements, three registers apart, and on
+ * drawn registers, of which some are one. In a block of either order it leaves the same.
+ */
+static unsigned multiplies(unsigned operation, unsigned format, unsigned *cases) {
+    static const char *const names[] = {"MUL", "MADD", "MSUB"};
+    unsigned agree = 0, corners = CORNERS * CORNERS * OLDS / (16u >> format);
+    for (unsigned i = 0; i < corners + 256; i++) {
+        struct test t = drawn_test(1, MSA_ORDER_LITTLE);
+        unsigned wd = drawn(32), ws = drawn(32), wt = drawn(32);
+        if (i < corners) {
+            ws = (wd + 1 + drawn(15)) % 32;
+            wt = (wd + 16 + drawn(16)) % 32;
+            put_corners(t.before.vectors.at, 1u << format, i * (16u >> format), wd, ws, wt);
+        }
+        snprintf(t.name, sizeof t.name, "%s%s_Q.%c %u", names[(operation & 7) - MUL_Q],
+                 operation & ROUNDED ? "R" : "", "BHW"[format], i);
+        t.unfenced = 1;
+        put_multiply(&t, operation, format, wd, ws, wt);
+        agree += (unsigned)check(&t);
+        t.before.control.at[MSA_CONTROL_ORDER] = t.after.control.at[MSA_CONTROL_ORDER] = MSA_ORDER_BIG;
+        agree += (unsigned)check(&t);
+        *cases += 2;
+        give_back_test(&t);
+    }
+    return agree;
+}
+
+static void fixed_point(void) {
+    unsigned cases = 0, agree = 0;
+    for (unsigned operation = MUL_Q; operation <= MSUB_Q; operation++)
+        for (unsigned format = 1; format <= 2; format++) {
+            agree += multiplies(operation, format, &cases);
+            agree += multiplies(operation | ROUNDED, format, &cases);
+        }
+    printf("fixed-point multiplies: %u of %u cases agree\n", agree, cases);
+}
+
 /* CTCMSA $1,$4 of every number in the bits 17 to 7, with all other bits set: when a trap is armed, and by which bits */
 static void traps(void) {
     static uint8_t program[4] = {0x59, 0x20, 0x3E, 0x78};
@@ -637,6 +735,7 @@ int main(int n, char **names) {
     settings();
     accesses();
     round_trips();
+    fixed_point();
     traps();
     texts();
     printf("msa_why: %lu calls on fenced read-only pages\n", fenced_calls);

@@ -1,5 +1,5 @@
-/* The C entry of Szafranosz: one step or one run of the integer subset of the
- * MIPS64 SIMD Architecture, rev. 1.12, and why the next step would stop. The layout of the
+/* The C entry of Szafranosz: one step or one run of the integer and fixed-point subset of
+ * the MIPS64 SIMD Architecture, rev. 1.12, and why the next step would stop. The layout of the
  * lent bytes is described in docs/LAYOUT.md. Program, registers and control block are
  * little-endian; the elements that a kernel loads from the table and the work window, and
  * stores into the work window, are in the order that the control block names.

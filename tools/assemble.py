@@ -1,9 +1,10 @@
-"""assemble.py FILE.s..: writes FILE.hex (a word a line), FILE.words (the words as little-endian bytes, what `list` reads) and FILE.lst
-(the listing, base 0) beside each source.
+"""assemble.py FILE.s..: writes FILE.hex (a word a line), FILE.words (the words as little-endian bytes, what `list`
+reads) and FILE.lst (the listing, base 0) beside each source.
 assemble.py --check DIR: assembles each DIR/*.s and compares with the DIR/*.hex that stands there.
 
-The words come from the encoding table ../shared/isa/instructions.tsv: format, minor opcode, operation field. A source line is
-`label:` or `mnemonic operands`, `#` begins a comment; a branch names its label.
+The words come from the encoding tables ../shared/isa/instructions.tsv and, for request 2/12's Table 4.7, left-out.tsv
+beside it: format, minor opcode, operation field. A source line is `label:` or `mnemonic operands`, `#` begins a
+comment; a branch names its label.
 """
 import csv
 import glob
@@ -12,17 +13,23 @@ import re
 import sys
 
 ROOT = os.path.dirname(os.path.dirname(os.path.abspath(__file__)))
-TABLE = os.path.join(ROOT, "..", "shared", "isa", "instructions.tsv")
+ISA = os.path.join(ROOT, "..", "shared", "isa")
 FORMATS = "BHWD"
 # where a field of a name stands, by format where it differs
 PLACES = {"wd": 6, "ws": 11, "wt": 16, "rd": 6, "cd": 6, "rs": 11, "cs": 11, "rt": 16, "u5": 16, "s5": 16, "i8": 16}
 
 
+def listed(name):
+    with open(os.path.join(ISA, name), newline="") as f:
+        return list(csv.DictReader(f, delimiter="\t"))
+
+
 def rows():
+    # left-out.tsv does not name the operands
+    fixed = [{**r, "operands": "wd,ws,wt"} for r in listed("left-out.tsv") if r["table"] == "4.7"]
     table = {}
-    with open(TABLE, newline="") as f:
-        for r in csv.DictReader(f, delimiter="\t"):
-            table.setdefault(r["mnemonic"], []).append(r)
+    for r in listed("instructions.tsv") + fixed:
+        table.setdefault(r["mnemonic"], []).append(r)
     return table
 
 
@@ -63,10 +70,13 @@ def encode(table, mnemonic, operands):
         offset = f.pop("s10")
         if offset % (1 << df):
             raise ValueError("offset")
-        return word | (offset >> df & 0x3FF) << 16 | f["rs"] << 11 | f["wd"] << 6 | int(row["minor_opcode"][:4], 2) << 2 | df
+        word |= (offset >> df & 0x3FF) << 16 | f["rs"] << 11 | f["wd"] << 6
+        return word | int(row["minor_opcode"][:4], 2) << 2 | df
     word = set_bits(word | int(row["minor_opcode"], 2), row["operation_field"], df)
     if kind in ("3R", "I5", "I10"):
         word |= df << 21
+    elif kind == "3RF":
+        word |= row["data_formats"].index(dot) << 21
     elif kind == "2R":
         word |= df << 16
     elif kind == "ELM" and "n" in f:

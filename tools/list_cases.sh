@@ -1,10 +1,11 @@
 #!/bin/sh
-# Runs the S cases of ../shared/vectors/list.txt through target/bin/list, whole and in pieces, and counts how many agree.
+# Runs the S cases of ../shared/vectors/after-2/list.txt through target/bin/list, whole and in pieces, and counts how
+# many agree.
 cd "$(dirname "$0")/.." || exit 1
 python3 - "$@" <<'P'
 import subprocess, sys
 cases, now = [], None
-for row in open("../shared/vectors/list.txt"):
+for row in open("../shared/vectors/after-2/list.txt"):
     row = row.rstrip("\n")
     if row.startswith("S "):
         now = (b"" if row.split()[2] == "-" else bytes.fromhex(row.split()[2]), [])

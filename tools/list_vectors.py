@@ -1,5 +1,5 @@
 #!/usr/bin/env python3
-"""Makes the data of crates/list, crates/list_long and crates/list_test from ../shared/vectors/list.txt.
+"""Makes the data of crates/list, crates/list_long and crates/list_test from ../shared/vectors/after-2/list.txt.
 
 The file's L lines have an address, a word, the line's length and the line.
 list_test/stdin has 73 bytes for each: address and word, little-endian, the length, the line with blanks up to 64.
@@ -14,7 +14,7 @@ records = []
 words = [bytes.fromhex("4E094278"), bytes.fromhex("C6095178")]
 lines = ["00000000: 7842094E ADDV.W $w5,$w1,$w2\n", "00000004: 785109C6 ADDVI.W $w7,$w1,17\n"]
 long_bytes, long_lines, inside = b"", [], False
-with open(os.path.join(root, "../shared/vectors/list.txt")) as vectors:
+with open(os.path.join(root, "../shared/vectors/after-2/list.txt")) as vectors:
     for row in vectors:
         if row.startswith("L "):
             _, address, word, length, line = row.rstrip("\n").split(" ", 4)

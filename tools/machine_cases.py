@@ -3,10 +3,10 @@
 corners-run.txt, whole, each from the first folder that has it; document 01's edges of a set-up, and accesses about two
 windows that stop; a step of each mnemonic and format of ops.txt; control blocks, those outside docs/LAYOUT.md among
 them; the cases of VECTORS-DIR/after-6 that name a reason, which have its word and its fact; values for MSACSR; the
-big-endian cases of VECTORS-DIR/after-7; and loads and stores of each format in both byte orders. Of the cases with the
-rule of request 2/12 those that have a word of it are left out: of a step the word at the program counter, of a run any.
+big-endian cases of VECTORS-DIR/after-7; loads and stores of each format in both byte orders; and the fixed-point
+multiplies of request 2/12 on corners, with one register for two or three, in programs, and with the switch off.
 
-usage: tools/machine_cases.py VECTORS-DIR/after-1 VECTORS-DIR > crates/machine_test/stdin
+usage: tools/machine_cases.py VECTORS-DIR/after-2 VECTORS-DIR > crates/machine_test/stdin
 
 All numbers are little-endian. The cases follow each other, each begun by a byte 1:
 
@@ -32,17 +32,20 @@ The head, by the place of each:
 72, 76, 80  patterns of program, table, work window (4 each)
 84, 88, 92  what stands behind the reason: kind (4), word (4) and fact (8); of a step before it, of a run after it
 """
+import functools
 import glob
+import itertools
 import os
 import struct
 import sys
 
-GROUPS = ["step", "run", "kernels", "corners-step", "corners-run", "edges", "forms", "blocks", "why", "order"]
+GROUPS = ["step", "run", "kernels", "corners-step", "corners-run", "edges", "forms", "blocks", "why", "order", "fixed"]
 KERNELS = ["beams", "correlate", "movavg", "peak", "threshold"]
 BLOCK = "<QQIHBB"  # program counter, target, MSACSR, slot mark, MSA switch, byte order
 ADDV_W = 0x7842094E  # ADDV.W $w5,$w1,$w2
 LD_B, ST_B = 0x78000960, 0x78000964  # LD.B $w5,0($1), ST.B $w5,0($1); formats H, W, D: 1, 2, 3 more
 CTCMSA = 0x783E0859  # CTCMSA $1,$1: to MSACSR
+BZ_V, BNZ_V = 0x45600000, 0x45E00000  # of $w0 and offset 0
 ODD = 0xFEDCBA9876543211  # a target that no set-up accepts of a taken mark
 
 
@@ -75,19 +78,12 @@ def parsed(path, group):
     for line in open(path):
         key, _, rest = line.rstrip("\n").partition(" ")
         if key == "end":
-            c = case_of(fields, group)
-            if group == "kernels" or holds(c, *fields["r"].split()[:2]):
-                yield c
+            # division by zero as on the boards, and the fixed-point multiplies; neither concerns a word of a kernel
+            assert group == "kernels" or fields["r"].split()[:2] == ["1", "1"], fields["case"]
+            yield case_of(fields, group)
             fields = {}
         elif key != "#":
             fields[key] = rest
-
-
-def holds(c, division, fixed):
-    """Whether a case with these rules in its r line holds: with that of request 1/12, and with that of 2/12 where no
-    word is one of 2/12. (Neither concerns a word of a kernel.)"""
-    words = struct.unpack_from(f"<{len(c['p']) // 4}I", c["p"]) if c["entry"] == "run" else [word_at(c)]
-    return division == "1" and not (fixed == "1" and any(map(fixed_point, words)))
 
 
 def case_of(f, group):
@@ -105,6 +101,7 @@ def case_of(f, group):
     c["budget"] = int(f.get("b", "0"))
     c["reason"], c["count"], c["missing"] = int(reason), 0 if count == "-" else int(count), int(f["a"], 16)
     assert "x" not in f or behind(c)[1:] == tuple(int(x, 16) for x in f["x"].split()), f["case"]
+    assert not multiplies(c) or c["V"] == multiplied(c["v"], word_at(c)), f["case"]
     return c
 
 
@@ -113,11 +110,6 @@ def word_at(c, block="c"):
     at = int.from_bytes(c[block][:8], "little") - c["pb"]
     whole = 0 <= at <= len(c["p"]) - 4 and at % 4 == 0
     return int.from_bytes(c["p"][at : at + 4], "little") if whole else 0
-
-
-def fixed_point(w):
-    """A multiply of request 2/12: 3RF, minor opcode 011100, operations 4 to 6 and 12 to 14."""
-    return w >> 26 == 0x1E and w & 63 == 0x1C and w >> 22 & 15 in (4, 5, 6, 12, 13, 14)
 
 
 KIND = {11: 1, 12: 2, 13: 2, 14: 2, 15: 2, 16: 3, 17: 4, 18: 4, 19: 5}
@@ -148,8 +140,8 @@ def behind(c):
 def edge(number, entry, reason, **given):
     c = {
         "group": "edges", "number": number, "entry": entry, "reason": reason, "count": 0, "missing": 0, "budget": 0,
-        "v": bytes((7 * i) % 256 for i in range(512)), "g": bytes(256), "p": struct.pack("<I", ADDV_W), "t": b"", "w": bytes(range(16)),
-        "pb": 0, "tb": 0, "wb": 1000, "c": laid(),
+        "v": bytes((7 * i) % 256 for i in range(512)), "g": bytes(256), "p": struct.pack("<I", ADDV_W), "t": b"",
+        "w": bytes(range(16)), "pb": 0, "tb": 0, "wb": 1000, "c": laid(),
     }  # fmt: skip
     c.update(given)
     for k in "vgwc":
@@ -313,8 +305,9 @@ def blocks(cases):
     outside = [lengths[n] for n in (0, 23, 25)] + [laid(mark=m) for m in (3, 255, 256, 512, 65535)]
     outside += [laid(on=s & 255, order=s >> 8) for s in SETTINGS if s not in ACCEPTED] + others
     out += [c for b in outside for c in refused_earlier(b)]
-    out += odd_targets(cases)
-    return [{**c, "group": "blocks", "number": n} for n, c in enumerate(out, 1)]
+    # the shared cases have no run from a slot that is not taken to an access outside the windows
+    run = {"p": struct.pack("<II", ADDV_W, LD_B), "V": added(edge(0, "step", 0)["v"]), "C": laid(4)}
+    return out + [*odd_targets([*cases, edge(0, "run", 17, c=laid(mark=1), budget=2, count=1, **run)])]
 
 
 def trap_values():
@@ -361,6 +354,116 @@ def accesses():
                 yield edge(0, "run", 11, budget=3, count=2, **given, C=laid(8, order=order))
 
 
+MUL, MADD, MSUB, ROUNDED = 4, 5, 6, 8  # operations of the minor opcode 011100; ROUNDED is added
+ELEMENTS = {2: "<8h", 4: "<4i"}  # of a register, by the bytes of one: H, W
+FIXED = [(op + rounded, size) for op in (MUL, MADD, MSUB) for rounded in (0, ROUNDED) for size in ELEMENTS]
+
+
+def fixed_word(operation, size, wd, ws, wt):
+    return 0x7800001C | operation << 22 | (size == 4) << 21 | wt << 16 | ws << 11 | wd << 6
+
+
+def fixed_point(operation, one, d, s, t):
+    """Request 2/12: the element that one of the six leaves of d, s and t. Elements count steps, one of them to the
+    number 1: the exact result, and half a step more where it is rounded, is floored and clamped once."""
+    exact = {MUL: s * t, MADD: d * one + s * t, MSUB: d * one - s * t}[operation & 7]
+    if operation & ROUNDED:
+        exact += one // 2
+    return max(-one, min(exact // one, one - 1))
+
+
+def multiplied(v, w):
+    """The vector registers v after the word w, one of the six."""
+    size = 4 if w >> 21 & 1 else 2
+    places = [16 * (w >> at & 31) for at in (6, 11, 16)]
+    lanes = zip(*(struct.unpack_from(ELEMENTS[size], v, at) for at in places))
+    after = [fixed_point(w >> 22 & 15, 1 << 8 * size - 1, *lane) for lane in lanes]
+    return v[: places[0]] + struct.pack(ELEMENTS[size], *after) + v[places[0] + 16 :]
+
+
+def multiplies(c):
+    """Whether a case is a finished step of one of the six: no other word of the minor opcode 011100 is finished."""
+    return c["entry"] == "step" and c["reason"] == 0 and word_at(c) & 0xFC00003F == 0x7800001C
+
+
+def corners(size):
+    """The elements at the ends and about 0, and those whose product by 1, 3 or -1 is half a step, one and a half, or
+    off that by the least there is."""
+    one = 1 << 8 * size - 1
+    half = one // 2
+    return [-one, 1 - one, -half - 1, -half, -1, 0, 1, 3, half - 1, half, half + 1, one - 1]
+
+
+def packed(size, elements):
+    """Registers of these elements, one behind the other."""
+    return struct.pack(f"<{len(elements)}{ELEMENTS[size][-1]}", *elements)
+
+
+def fixed_case(words, v, order):
+    """A step of the word, or a run of the words to their end; all are of the six."""
+    given = {"v": v, "V": functools.reduce(multiplied, words, v), "c": laid(order=order)}
+    given.update(p=struct.pack(f"<{len(words)}I", *words), C=laid(4 * len(words), order=order))
+    if len(words) == 1:
+        return edge(0, "step", 0, **given)
+    return edge(0, "run", 11, budget=len(words) + 1, count=len(words), **given)
+
+
+def fixed_pairs():
+    """Each form on each pair of corners, in $w5 and $w6: MUL_Q and MULR_Q as a step, the others as a run, a word for
+    each of the old registers $w0 to $w4, whose elements are all lowest, -1, 0, 1 or highest. The order changes from
+    case to case."""
+    for operation, size in FIXED:
+        each = corners(size)
+        olds = packed(size, [x for x in (each[0], -1, 0, 1, each[-1]) for _ in range(16 // size)])
+        firsts, seconds = (packed(size, side) for side in zip(*itertools.product(each, each)))
+        words = [fixed_word(operation, size, wd, 5, 6) for wd in range(1 if operation & 7 == MUL else 5)]
+        for at in range(0, len(firsts), 16):
+            v = olds + firsts[at : at + 16] + seconds[at : at + 16] + common(400, 3)
+            yield fixed_case(words, v, at // 16 % 2)
+
+
+def fixed_same_registers():
+    """Each form on three registers of corners, as a run of three words: wd, ws and wt are one register, and two of them
+    are."""
+    for operation, size in FIXED:
+        elements = corners(size) * (4 // size)
+        v = packed(size, elements) + packed(size, elements[::-1]) + common(416, 4)
+        for n, registers in enumerate(((0, 0, 0), (0, 0, 3), (0, 3, 0), (0, 3, 3))):
+            yield fixed_case([fixed_word(operation, size, *(r + k for r in registers)) for k in range(3)], v, n % 2)
+
+
+def fixed_program(size, branch):
+    """LD of $w5 and $w6, MADD_Q and MSUBR_Q to $w7, a branch of $w0 over MULR_Q with MUL_Q in its slot, both to $w9,
+    and ST of $w7 and $w9: the words, and those of the six that are done where $w0 is zero."""
+    access = [size // 2 + (k * 16 // size << 16) for k in range(4)]  # of $w5, 16k behind $1
+    loads = [LD_B + access[0], LD_B + access[1] + (1 << 6)]
+    sums = [fixed_word(MADD, size, 7, 5, 6), fixed_word(MSUB + ROUNDED, size, 7, 6, 8)]
+    products = [fixed_word(MUL, size, 9, 7, 5), fixed_word(MUL + ROUNDED, size, 9, 9, 6)]
+    stores = [ST_B + access[2] + (2 << 6), ST_B + access[3] + (4 << 6)]
+    return loads + sums + [branch + 2] + products + stores, sums + products[: 1 if branch == BZ_V else 2]
+
+
+def fixed_programs():
+    """The program in each format, the branch taken and not taken, in both orders. It loads from the table and from the
+    work window, and stores behind that."""
+    for size, order, branch in itertools.product(ELEMENTS, (0, 1), (BZ_V, BNZ_V)):
+        words, done = fixed_program(size, branch)
+        first, second = (packed(size, corners(size))[part] for part in (slice(16), slice(-16, None)))
+        v = bytes(16) + common(496, 6)
+        after = functools.reduce(multiplied, done, v[:80] + first + second + v[112:])
+        memory = [turned(r, size, order) for r in (first, second, after[112:128], after[144:160])]
+        given = {"t": memory[0], "w": memory[1] + bytes(32), "W": b"".join(memory[1:]), "tb": 0x1000, "wb": 0x1010}
+        given.update(v=v, V=after, g=general_1(0x1000), c=laid(order=order), C=laid(36, order=order))
+        yield edge(0, "run", 11, budget=len(done) + 6, count=len(done) + 5, p=struct.pack("<9I", *words), **given)
+
+
+def fixed_off():
+    """A step of each form with the switch off, beside each mark."""
+    for n, (operation, size) in enumerate(FIXED):
+        block = laid(mark=n % 3, target=8 if n % 3 == 2 else 0, on=0, order=n // 2 % 2)
+        yield edge(0, "step", 16, p=struct.pack("<I", fixed_word(operation, size, 5, 1, 2)), c=block)
+
+
 def pieces(old, new):
     """What changes old into new; places that stand less than four apart go together."""
     assert len(old) == len(new)
@@ -405,6 +508,10 @@ def newest(name):
     return next(filter(None, (sorted(glob.glob(os.path.join(folder, name))) for folder in sys.argv[1:])))
 
 
+def numbered(group, cases):
+    return [{**c, "group": group, "number": n} for n, c in enumerate(cases, 1)]
+
+
 def main():
     cases = []
     for group, name in zip(GROUPS, ["step.txt", "run.txt", "kernels/*.vec", "corners-step.txt", "corners-run.txt"]):
@@ -412,13 +519,12 @@ def main():
             cases += parsed(path, group)
     cases += edges()
     cases += forms(*newest("ops.txt"))
-    cases += blocks(cases)
     shared = parsed(os.path.join(sys.argv[-1], "after-6", "step.txt"), "why")
-    why = [*(c for c in shared if c["reason"]), *trap_values()]
-    cases += [{**c, "group": "why", "number": n} for n, c in enumerate(why, 1)]
+    cases += numbered("why", [*(c for c in shared if c["reason"]), *trap_values()])
     shared = [os.path.join(sys.argv[-1], "after-7", name) for name in ("step.txt", "run.txt")]
-    big = [*(c for path in shared for c in parsed(path, "order") if c["c"][23]), *accesses()]
-    cases += [{**c, "group": "order", "number": n} for n, c in enumerate(big, 1)]
+    cases += numbered("order", [*(c for path in shared for c in parsed(path, "order") if c["c"][23]), *accesses()])
+    cases += numbered("blocks", blocks(cases))
+    cases += numbered("fixed", [*fixed_pairs(), *fixed_same_registers(), *fixed_programs(), *fixed_off()])
     kept = [bytes(n) for n in (100, 513, 264, 280)]
     for c in cases:
         text, kept = record(c, kept)

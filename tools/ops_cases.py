@@ -1,7 +1,7 @@
 #!/usr/bin/env python3
 """Writes crates/ops_test/stdin: the cases of each FILE (lines of the form of shared/vectors/ops.txt), a part a file.
 
-usage: tools/ops_cases.py crates/ops_test/stdin VECTORS-DIR/after-1/ops.txt VECTORS-DIR/after-1/corners-ops.txt
+usage: tools/ops_cases.py crates/ops_test/stdin VECTORS-DIR/after-2/ops.txt VECTORS-DIR/after-2/corners-ops.txt
            tools/examples.txt
 
 A part: the number of its cases, 8 bytes, and the cases, 100 bytes each, little-endian:
@@ -33,7 +33,8 @@ def cases(name):
         part = line.split()
         if part[:1] != ["O"]:
             continue
-        word, wd, ws, wt, rs, rt, rd, _, kind, result = part[1:]
+        word, wd, ws, wt, rs, rt, rd, arrow, kind, result = part[1:]
+        assert arrow == "->" and kind in ("W", "G"), line
         head = number(word, 4) + registers(int(word, 16)) + bytes([kind == "G", 0])
         vectors = b"".join(number(x, 16) for x in (wd, ws, wt))
         yield head + vectors + b"".join(number(x, 8) for x in (rs, rt, rd)) + number(result, 16)

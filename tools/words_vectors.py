@@ -1,8 +1,8 @@
 #!/usr/bin/env python3
-"""Writes crates/words_test/stdin: the cases of shared/vectors/decode.txt and encode.txt, then of corners-decode.txt and
-corners-encode.txt, and cases of our own that are refused; 32 bytes each.
+"""Writes crates/words_test/stdin: the cases of decode.txt and encode.txt in shared/vectors/after-2, then of
+corners-decode.txt and corners-encode.txt, and cases of our own that are refused; 32 bytes each.
 
-usage: tools/words_vectors.py VECTORS-DIR > crates/words_test/stdin
+usage: tools/words_vectors.py ../shared/vectors/after-2 > crates/words_test/stdin
 
 byte 0       0 decode, 1 encode, 2 an encode case that no Instr can hold (a format or a number that its field's type
              lacks); 3 to 5 the same of the corners; 7 encode, of our own
@@ -18,7 +18,8 @@ byte 9       the format: 0 B, 1 H, 2 W, 3 D; 0 where the class has none
 bytes 10-12  the registers, in the order of the listing
 bytes 13-14  the immediate, index, offset or shift: the field's bits, little-endian
 
-What the manual says of a mnemonic is taken from shared/isa/instructions.tsv and not from crates/ops.
+What the manual says of a mnemonic is taken from shared/isa/instructions.tsv, of those of Table 4.7 from left-out.tsv
+beside it, and not from crates/ops.
 """
 import csv
 import os
@@ -31,7 +32,7 @@ CLASSES = [
     "3R wd,ws,wt ", "3R wd,ws[rt] ", "I5 wd,ws,u5 ", "I5 wd,ws,s5 ", "I10 wd,s10 ", "BIT wd,ws,m ", "I8 wd,ws,i8 B ",
     "I8 wd,ws,i8 BHW ", "ELM wd,ws[n] ", "ELM wd[n],ws[0] ", "ELM rd,ws[n] ", "ELM wd[n],rs ", "ELM wd,ws ",
     "ELM rd,cs ", "ELM cd,rs ", "VEC wd,ws,wt ", "2R wd,rs ", "2R wd,ws ", "MI10 wd,s10(rs) ", "BRANCH wt,s16 BHWD ",
-    "BRANCH wt,s16 V ", "SPECIAL rd,rs,rt,sa ",
+    "BRANCH wt,s16 V ", "SPECIAL rd,rs,rt,sa ", "3RF wd,ws,wt ",
 ]  # fmt: skip
 REGISTERS = {"wd": "$w", "ws": "$w", "wt": "$w", "rd": "$", "rs": "$", "rt": "$", "cd": "$", "cs": "$"}
 LIMITS = {"s5": (-16, 16), "s10": (-512, 512), "s16": (-32768, 32768)}  # what a signed field's bits can mean
@@ -50,6 +51,8 @@ def place(row):
         return (336 if code.endswith("111110") else 320) + int(code[:4], 2)
     if row["format"] == "VEC":
         return 352 + int(code, 2)
+    if row["format"] == "3RF":
+        return 384 + (minor - 26) * 16 + int(code, 2)
     if row["format"] == "2R":
         return 432 + int(code[5:], 2)
     if row["format"] == "BRANCH":
@@ -59,10 +62,15 @@ def place(row):
     return minor * 8 + int(code, 2)
 
 
-def table(path):
+def read_rows(path):
+    return list(csv.DictReader(open(path), delimiter="\t"))
+
+
+def table(isa):
     """The manual's rows by mnemonic and by whether the format is V, each with its class and place."""
     rows = {}
-    for row in csv.DictReader(open(path), delimiter="\t"):
+    fixed = [row for row in read_rows(os.path.join(isa, "left-out.tsv")) if row["table"] == "4.7"]
+    for row in read_rows(os.path.join(isa, "instructions.tsv")) + [dict(row, operands="wd,ws,wt") for row in fixed]:
         said = "{format} {operands} {data_formats} ".format(**row)
         row["class"] = next(k for k, start in enumerate(CLASSES) if said.startswith(start))
         row["place"] = place(row)
@@ -138,7 +146,8 @@ def encode_cases(path, first, rows):
 
 def own_cases(rows):
     """Each class of several operations at a place of each other class, at three reserved places, at one of what is left
-    out, at the one past the table and at the last; and signed fields of one bit more."""
+    out, at the one past the table and at the last; signed fields of one bit more; and MUL_Q in B and D, and with 32 for
+    each of its registers."""
     classes = [row["class"] for row in rows.values()]
     places = {row["class"]: row["place"] for row in rows.values()}
     for k in sorted(k for k in places if classes.count(k) > 1):
@@ -148,10 +157,13 @@ def own_cases(rows):
     for mnemonic, imm in (("MAXI_S", 32), ("LDI", 1024), ("LD", 1024)):
         row = rows[mnemonic, False]
         yield record(7, 0, 6, struct.pack("<BHBBBBH", row["class"], row["place"], 1, 1, 2, 3, imm))
+    row = rows["MUL_Q", False]
+    for df, wd, ws, wt in ((0, 1, 2, 3), (3, 1, 2, 3), (1, 32, 2, 3), (1, 1, 32, 3), (1, 1, 2, 32)):
+        yield record(7, 0, 6, struct.pack("<BHBBBBH", row["class"], row["place"], df, wd, ws, wt, 0))
 
 
 def main():
-    rows, out = table(os.path.join(sys.argv[1], "../isa/instructions.tsv")), []
+    rows, out = table(os.path.join(sys.argv[1], "../../isa")), []
     for first, prefix in ((0, ""), (3, "corners-")):
         path = os.path.join(sys.argv[1], prefix)
         out += decode_cases(path + "decode.txt", first, rows)

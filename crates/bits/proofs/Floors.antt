@@ -1,36 +1,21 @@
--- Shifts to the right, in views: the floor of a number that stands over a multiple of the divisor.
+-- Shifts to the right, in views.
 -- Assumes nothing.
 use mathlib.Core.Path.{_≡_, refl, sym, ap, _∙_}
-use Prim.Native.Nat.{ℕ, zero, suc, _+_, _-_, _*_, _/_, _%_, _^_, _≤_, _<_, suc-le-suc, zero-le}
+use Prim.Native.Nat.{ℕ, zero, suc, _+_, _-_, _*_, _/_, _^_, _≤_, _<_, suc-le-suc, zero-le}
 use native.Mathlib.Omega.{arith}
-use native.Mathlib.Nat.{div-add-mod', div-mul-le-self, mod-lt, div-le-self, le-antisymm, lt-of-mul-lt-mul-right, mul-add-div-right, mul-div-cancel, div-lt-iff-lt-mul, mul-le-mul-left, zero-div}
+use native.Mathlib.Nat.{div-mul-le-self, div-le-self, mul-div-cancel, div-lt-iff-lt-mul, mul-le-mul-left, zero-div}
 use borrow.Author.Tests.{ne-eqb}
 use lib.Pow.{pow-pos, pow-add, pow-mono}
-use lib.IntN.{ℤ, pos, negsuc}
 use lib.Signed.{shrZ}
 use Rattle.element.specs.declared.Reading.{Reading}
 use Rattle.element.specs.declared.Reading.the-variants.{Unsigned, Signed}
 use Rattle.element.specs.Value.{top, value}
 use Rattle.element.specs.Views.{flip, view, bias}
-use Rattle.element.proofs.Diff.{Diff, diff-pos, diff-add, diff-to}
+use Rattle.element.proofs.Diff.{Diff, diff-pos, diff-add, diff-to, diff-shr}
 use Rattle.element.proofs.Readings.{value-diff, view-below, wrap-view}
 use Rattle.element.proofs.Widths.{Size}
 use Rattle.bits.specs.Shifts.{lastOut, shiftRight, shiftRounded}
 use Rattle.bits.proofs.Fields.{bit-small}
-
--- more than c and less than c + 2 times m
-one-more : (b c m e : ℕ) → b * m ≡ c * m + e → 0 < e → e < m + m → b ≡ suc c
-one-more b c m e h low high = le-antisymm
-    (omega (arith, lt-of-mul-lt-mul-right m {m = b} {n = suc (suc c)} (omega arith)))
-    (lt-of-mul-lt-mul-right m {m = c} {n = b} (omega arith))
-
-diff-shr : {z : ℤ} {a b : ℕ} (m : ℕ) → 0 < m → Diff z a (b * m) → Diff (shrZ z m) (a / m) b
-diff-shr {z = pos k} {a} {b} m some d =
-    record { is = ap (λ x. x / m) (d .is) ∙ mul-add-div-right some b k }
-diff-shr {z = negsuc k} {a} {b} m some d =
-    let e = one-more b (a / m + k / m) m (a % m + k % m + 1)
-    (omega (arith, div-add-mod' a m, div-add-mod' k m)) (omega arith) (omega (arith, mod-lt a some, mod-lt k some)) in
-    record { is = omega arith }
 
 last-small : (x k : ℕ) → lastOut x k < 2
 unfolding lastOut

@@ -243,6 +243,7 @@ module _ (order : Order) (table : List ℕ) (pb tb b₁ b₂ : ℕ) (v g : List 
   executed-alike (instr.Branch o df wt offset) = same refl tt
   executed-alike (instr.BranchV o wt offset) = same refl tt
   executed-alike (instr.Scaled o rd rs rt sa) = same refl tt
+  executed-alike (instr.Fixed o df wd ws wt) = same refl tt
 
   unless-alike : (s : Early) (q₁ q₂ : Plan) → Plans q₁ q₂ → Plans (unless s q₁) (unless s q₂)
   unless-alike Go q₁ q₂ h = h

@@ -156,6 +156,7 @@ module _ (e : Env) (m : Machine) where
   executed-within (instr.Branch o df wt offset) = (takenOf (zeroAt (o .0)) df (registerAt (m .vec) wt), offset, refl)
   executed-within (instr.BranchV o wt offset) = (takenVOf (zeroAt (o .0)) (registerAt (m .vec) wt), offset, refl)
   executed-within (instr.Scaled o rd rs rt sa) = tt
+  executed-within (instr.Fixed o df wd ws wt) = tt
 
   unless-within : (s : Early) (q : Plan) → Kept q → Kept (unless s q)
   unless-within Go q h = h

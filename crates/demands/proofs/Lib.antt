@@ -7,6 +7,7 @@ pub mod CsrBits
 pub mod Demand1
 pub mod Demand2
 pub mod Demand3
+pub mod Fixed
 pub mod GoesOn
 pub mod Kept
 pub mod Lanes

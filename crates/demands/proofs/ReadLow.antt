@@ -79,6 +79,7 @@ module _ (w : ℕ) where
   class-low class.Scaled f k =
       simp (field 31 26, field 10 8, field 15 11, field 25 21, field 20 16, field 7 6)
   class-low class.LeftOut f k = refl
+  class-low class.Fixed f k = simp (field 31 26, field 21 21, field 10 6, field 15 11, field 20 16)
 
   pub read-low : readOf low ≡ readOf w
   unfolding readOf

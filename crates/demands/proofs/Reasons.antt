@@ -89,6 +89,7 @@ kinds (instr.Memory o df wd offset rs) = switched (λ h. elim h [ ]) (λ h. elim
 kinds (instr.Branch o df wt offset) = branching format (λ h. elim h [ ])
 kinds (instr.BranchV o wt offset) = branching whole (λ h. elim h [ ])
 kinds (instr.Scaled o rd rs rt sa) = free (λ h. elim h [ ]) scaled
+kinds (instr.Fixed o df wd ws wt) = switched (λ h. elim h [ ]) (λ h. elim h [ ])
 
 -- both before what the instruction itself may stop for
 module _ (i : Instr) (q : Plan) (rows : List Row) (rest : First rows (outcomeNumber (outcomeOf q))) where
@@ -263,6 +264,7 @@ module _ (e : Env) (m : Machine) (sized : Sized e m) where
   executed-first (instr.Branch o df wt offset) = quiet (λ h. elim h [ ]) (λ h. elim h [ ]) (λ h. elim h [ ])
   executed-first (instr.BranchV o wt offset) = quiet (λ h. elim h [ ]) (λ h. elim h [ ]) (λ h. elim h [ ])
   executed-first (instr.Scaled o rd rs rt sa) = quiet (λ h. elim h [ ]) (λ h. elim h [ ]) (λ h. elim h [ ])
+  executed-first (instr.Fixed o df wd ws wt) = quiet (λ h. elim h [ ]) (λ h. elim h [ ]) (λ h. elim h [ ])
 
 -- ---- the word at the counter
 

@@ -4,7 +4,9 @@ pub mod ByZero
 pub mod Demand1
 pub mod Demand2
 pub mod Demand3
+pub mod Fixed
 pub mod Kept
+pub mod Lanes
 pub mod Limits
 pub mod Missing
 pub mod OneAnswer

@@ -1,12 +1,13 @@
 -- A whole number as a difference of two natural numbers: the bridge from the definitions in ℤ to `omega`, which reads ℕ alone.
 -- Assumes nothing.
-use mathlib.Core.Path.{_≡_, refl, sym}
+use mathlib.Core.Path.{_≡_, refl, sym, ap, _∙_}
 use mathlib.Core.Bool.{Bool, true, false, not, cond}
-use Prim.Native.Nat.{ℕ, zero, suc, _+_, _-_, _/_, _≤_, _<_}
+use Prim.Native.Nat.{ℕ, zero, suc, _+_, _-_, _*_, _/_, _%_, _≤_, _<_}
+use native.Mathlib.Nat.{div-add-mod', mod-lt, le-antisymm, lt-of-mul-lt-mul-right, mul-add-div-right}
 use native.Mathlib.Omega.{arith}
 use borrow.Author.Tests.{lt-ltb, le-ltb, le-leb, lt-leb, ltb-true, ltb-false}
 use lib.Dec.{ltb, leb}
-use lib.IntN.{ℤ, pos, negsuc, negℤ, natAbs, subℕ, _+ℤ_, _-ℤ_}
+use lib.IntN.{ℤ, pos, negsuc, negℤ, natAbs, subℕ, _+ℤ_, _-ℤ_, _*ℤ_}
 use lib.Signed.{ltZ, leZ, shrZ}
 
 abbrev IsDiff : ℤ → ℕ → ℕ → Type 0
@@ -98,7 +99,25 @@ pub diff-abs : {z : ℤ} {a b : ℕ} → Diff z a b → natAbs z ≡ (a - b) + (
 diff-abs {z = pos k} h = omega arith
 diff-abs {z = negsuc k} h = omega arith
 
--- the floor of half a number that stands over an even one
-pub diff-half : {z : ℤ} {a b : ℕ} → Diff z a (b + b) → Diff (shrZ z 2) (a / 2) b
-diff-half {z = pos k} h = omega arith
-diff-half {z = negsuc k} h = omega arith
+pub diff-mul : {y z : ℤ} {a b c d : ℕ} → Diff y a b → Diff z c d → Diff (y *ℤ z) (a * c + b * d) (a * d + b * c)
+diff-mul {y = pos j} {z = pos k} g h = record { is = rw (g .is, h .is) (omega arith) }
+diff-mul {y = pos j} {z = negsuc k} g h =
+    diff-neg {z = pos (j * suc k)} (record { is = rw (g .is, h .is) (omega arith) })
+diff-mul {y = negsuc j} {z = pos k} g h =
+    diff-neg {z = pos (suc j * k)} (record { is = rw (g .is, h .is) (omega arith) })
+diff-mul {y = negsuc j} {z = negsuc k} g h = record { is = rw (g .is, h .is) (omega arith) }
+
+-- more than c and less than c + 2 times m
+one-more : (b c m e : ℕ) → b * m ≡ c * m + e → 0 < e → e < m + m → b ≡ suc c
+one-more b c m e h low high = le-antisymm
+    (omega (arith, lt-of-mul-lt-mul-right m {m = b} {n = suc (suc c)} (omega arith)))
+    (lt-of-mul-lt-mul-right m {m = c} {n = b} (omega arith))
+
+-- the floor of a number that stands over a multiple of the divisor
+pub diff-shr : {z : ℤ} {a b : ℕ} (m : ℕ) → 0 < m → Diff z a (b * m) → Diff (shrZ z m) (a / m) b
+diff-shr {z = pos k} {a} {b} m some d =
+    record { is = ap (λ x. x / m) (d .is) ∙ mul-add-div-right some b k }
+diff-shr {z = negsuc k} {a} {b} m some d =
+    let e = one-more b (a / m + k / m) m (a % m + k % m + 1)
+    (omega (arith, div-add-mod' a m, div-add-mod' k m)) (omega arith) (omega (arith, mod-lt a some, mod-lt k some)) in
+    record { is = omega arith }

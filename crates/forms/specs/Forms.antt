@@ -6,6 +6,7 @@ use Rattle.isa.specs.declared.Arith.{Arith}
 use Rattle.isa.specs.declared.BitOp.{BitOp}
 use Rattle.isa.specs.declared.BitOp.the-variants as bit
 use Rattle.isa.specs.declared.Count.{Count}
+use Rattle.isa.specs.declared.Fixed.{Fixed}
 use Rattle.isa.specs.declared.Indexed.{Indexed}
 use Rattle.isa.specs.declared.Indexed.the-variants.{Sld, Splat}
 use Rattle.isa.specs.declared.Logic.{Logic}
@@ -24,6 +25,9 @@ threeOf (three.Bitwise o) n d s t = eachLane (lane.Bit (bit.Bitwise o)) n d s t
 threeOf (three.Rounding o) n d s t = eachLane (lane.Bit (bit.Rounding o)) n d s t
 threeOf (three.Pack o) n d s t = whole n (packed o n s t)
 threeOf three.Vshf n d s t = whole n (chosenByControl n d s t)
+
+abbrev pub fixedOf : Fixed → ℕ → ℕ → ℕ → ℕ → ℕ
+fixedOf o n d s t = eachLane (lane.Fixed o) n d s t
 
 -- SLD and SLDI by x columns, and SPLAT and SPLATI of element x, each modulo the element count:
 -- x is a general register, or the index of ELM

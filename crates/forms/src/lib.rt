@@ -1,14 +1,16 @@
 // What the operation of each encoding class makes of vector registers: the operations on registers behind the enums.
 // d, s and t are the old wd, ws and wt; an immediate stands in every element of t.
 ghost use mathlib.Core.Path.{_≡_};
+ghost use Prim.Native.Nat.{_≤_};
 ghost use Rattle.isa.specs.Widths.{bits};
 ghost use Rattle.memory.specs.Value.{value, register};
-ghost use Rattle.forms.specs.Forms.{threeOf, indexedOf, imm5Of, bitOf, imm8Of, countOf};
+ghost use Rattle.forms.specs.Forms.{threeOf, fixedOf, indexedOf, imm5Of, bitOf, imm8Of, countOf};
 ghost use Rattle.forms.specs.Forms as forms;
 use each::each;
 use isa::Arith;
 use isa::BitOp;
 use isa::Count;
+use isa::Fixed;
 use isa::Indexed;
 use isa::Logic;
 use isa::Three;
@@ -34,6 +36,14 @@ pub fn three(op: Three, w: Width, d: Register, s: Register, t: Register) -> Regi
         Three::Pack(o) => pack(o, w, s, t),
         Three::Vshf => vshf(w, d, s, t),
     }
+}
+
+// 3RF, the fixed-point multiplies: formats H and W, of which 64 bits hold the products.
+pub fn fixed(op: Fixed, w: Width, d: Register, s: Register, t: Register) -> Register
+    requires { ⌜ bits w ≤ 32 ⌝ }
+    ensures { λ r. ⌜ r ≡ register (fixedOf op (bits w) (value d) (value s) (value t)) ⌝ }
+{
+    each(Lane::Fixed(op), w, d, s, t)
 }
 
 // 3R with the general register x in the place of wt, and ELM with the index x there.

@@ -1,4 +1,4 @@
--- The four data formats in numbers, Table 3.10 and section 3.3.
+-- The four data formats in numbers, Tables 3.10 and 3.11 and section 3.3.
 use mathlib.Core.List.{[], _∷_}
 use Prim.Native.Nat.{ℕ}
 use lib.ListN.{getD}
@@ -35,3 +35,13 @@ widthCode D = 3
 
 abbrev pub widthAt : ℕ → Width
 widthAt k = getD (B ∷ H ∷ W ∷ D ∷ []) k D
+
+-- Table 3.11: H and W by one bit. B and D have no code there: 2, which one bit does not hold
+abbrev pub hwCode : Width → ℕ
+hwCode B = 2
+hwCode H = 0
+hwCode W = 1
+hwCode D = 2
+
+abbrev pub hwAt : ℕ → Width
+hwAt k = getD (H ∷ W ∷ []) k W

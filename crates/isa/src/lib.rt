@@ -135,6 +135,16 @@ pub enum Saturate {
     SatU,
 }
 
+// 3RF 011100, Table 4.7; H and W forms alone.
+pub enum Fixed {
+    MulQ,
+    MaddQ,
+    MsubQ,
+    MulrQ,
+    MaddrQ,
+    MsubrQ,
+}
+
 // 3R 010100, between vector registers.
 pub enum Pack {
     Pckev,
@@ -343,6 +353,13 @@ pub enum Instr {
         rs: Greg,
         rt: Greg,
         sa: u8,
+    },
+    Fixed {
+        op: Op,
+        df: Width,
+        wd: Vreg,
+        ws: Vreg,
+        wt: Vreg,
     },
 }
 

@@ -1,7 +1,8 @@
-// Every operation with a data format of Tables 4.1, 4.2 and 4.8 on one element, behind one name.
+// Every operation with a data format of Tables 4.1, 4.2, 4.7 and 4.8 on one element, behind one name.
 use isa::Arith;
 use isa::BitOp;
 use isa::Count;
+use isa::Fixed;
 
 pub mod dispatch;
 
@@ -9,4 +10,5 @@ pub enum Lane {
     Arith(Arith),
     Bit(BitOp),
     Count(Count),
+    Fixed(Fixed),
 }

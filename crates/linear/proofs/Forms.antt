@@ -10,7 +10,7 @@ use Rattle.element.specs.declared.Reading.the-variants.{Unsigned, Signed}
 use Rattle.element.specs.Elements.{Elements}
 use Rattle.element.specs.Value.{top, value}
 use Rattle.element.specs.Views.{flip, view, bias}
-use Rattle.element.proofs.Diff.{Diff, diff-pos, diff-add, diff-minus, diff-abs, diff-half, diff-to}
+use Rattle.element.proofs.Diff.{Diff, diff-pos, diff-add, diff-minus, diff-abs, diff-shr, diff-to}
 use Rattle.element.proofs.Readings.{value-diff, view-below, wrap-view, sat-view, less-view}
 use Rattle.element.proofs.Widths.{Size}
 use Rattle.linear.specs.Sums.{adds, subs, subsusU, subsuuS, asub, average}
@@ -48,7 +48,8 @@ module _ (n : ℕ) (size : Size n) (g : Reading) {s t : ℕ} (e : Elements n s t
   unfolding average
   average-form more small =
       wrap-view n size g _
-      (diff-half {a = view g n s + view g n t + more} {b = bias g n} (diff-to (diff-add (diff-add first second) (diff-pos more)) (omega arith)))
+      (diff-shr {a = view g n s + view g n t + more} {b = bias g n} 2 (omega arith)
+      (diff-to (diff-add (diff-add first second) (diff-pos more)) (omega arith)))
       (omega arith)
       (omega (arith, view-below n size g (e .first), view-below n size g (e .second)))
 

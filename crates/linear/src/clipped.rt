@@ -4,28 +4,14 @@ ghost use Prim.Native.Nat.{_+_, _-_, _/_, _^_, _<_, min};
 ghost use Rattle.isa.specs.Widths.{bits};
 ghost use Rattle.element.specs.Elements.{Elements};
 ghost use Rattle.linear.specs.Sums as sums;
+use crate::clip::clip;
 use element::Reading;
 use element::bias;
 use element::flip;
 use element::half;
 use element::magnitude;
-use element::ones;
 use element::view;
 use isa::Width;
-
-// u + plus - minus, held to the numbers of the width.
-fn clip(w: Width, u: u64, plus: u64, minus: u64) -> u64
-    requires { ⌜ u < 2 ^ bits w ⌝ }
-    ensures { λ r. ⌜ r ≡ min (u + plus - minus) (2 ^ bits w - 1) ⌝ }
-{
-    if plus < minus {
-        let down = minus - plus;
-        return if u < down { 0 } else { u - down };
-    }
-    let up = plus - minus;
-    let most = ones(w);
-    if most - u < up { most } else { u + up }
-}
 
 pub fn adds(w: Width, g: Reading, s: u64, t: u64) -> u64
     requires { ⌜ Elements (bits w) s t ⌝ }

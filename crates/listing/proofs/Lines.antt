@@ -65,6 +65,7 @@ small (instr.Memory k df wd offset rs) = refl
 small (instr.Branch k df wt offset) = refl
 small (instr.BranchV k wt offset) = refl
 small (instr.Scaled k rd rs rt sa) = refl
+small (instr.Fixed k df wd ws wt) = refl
 
 form-fits : (f : Form) → length (formText f) ≤ 2
 form-fits Bare = omega arith

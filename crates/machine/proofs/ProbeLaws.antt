@@ -138,6 +138,7 @@ module _ (b : Board) (t v g w : List ℕ) (c : Control) where
   executed-settles (instr.Branch o df wt offset) = refl
   executed-settles (instr.BranchV o wt offset) = refl
   executed-settles (instr.Scaled o rd rs rt sa) = refl
+  executed-settles (instr.Fixed o df wd ws wt) = refl
 
   -- 15 and 16 come before the windows
   unless-settles : (k : Kind) (mark : Mark) (on : Bool) (q q₁ q₂ : Plan) → Settles q q₁ q₂

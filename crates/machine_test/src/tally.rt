@@ -1,17 +1,18 @@
-// The counts: cases that were run and cases that agree, by group, and how often each reason was reached by a case that agrees.
+// The counts: cases that were run and cases that agree, by group, and how often each reason was reached by a case that
+// agrees.
 use crate::head;
 use std::num::wrapping_add_u64;
 
 pub struct Tally {
-    pub cases: [u64; 10],
-    pub agree: [u64; 10],
+    pub cases: [u64; 11],
+    pub agree: [u64; 11],
     pub reached: [u64; 32],
 }
 
 pub fn none() -> Tally {
     Tally {
-        cases: [0; 10],
-        agree: [0; 10],
+        cases: [0; 11],
+        agree: [0; 11],
         reached: [0; 32],
     }
 }
@@ -45,8 +46,11 @@ fn name(group: u8) {
         8 => {
             io::write_all(1, b"why");
         }
-        _ => {
+        9 => {
             io::write_all(1, b"byte order");
+        }
+        _ => {
+            io::write_all(1, b"fixed point");
         }
     }
 }
@@ -63,7 +67,7 @@ pub fn with(t: Tally, h: [u8; 100], agrees: bool) -> Tally {
     let mut cases = t.cases;
     let mut agree = t.agree;
     let mut reached = t.reached;
-    let k = (h[0] % 10) as usize;
+    let k = (h[0] % 11) as usize;
     let r = (h[8] % 32) as usize;
     cases[k] = wrapping_add_u64(cases[k], 1);
     if agrees {
@@ -95,9 +99,9 @@ fn reason(n: usize, times: u64) {
     }
 }
 
-fn lines(agree: [u64; 10], cases: [u64; 10]) {
+fn lines(agree: [u64; 11], cases: [u64; 11]) {
     let mut k: usize = 0;
-    while k < 10 {
+    while k < 11 {
         line(k as u8, agree[k], cases[k]);
         k += 1;
     }

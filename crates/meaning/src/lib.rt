@@ -12,6 +12,7 @@ use isa::Compare;
 use isa::Copied;
 use isa::Count;
 use isa::Dot;
+use isa::Fixed;
 use isa::Indexed;
 use isa::Logic;
 use isa::Memory;
@@ -26,7 +27,7 @@ use isa::Three;
 use isa::Zero;
 ghost use mathlib.Core.Path.{_≡_};
 ghost use Rattle.ops.specs.Meaning.{threeAt, indexedAt, imm5At, bitAt, logicAt};
-ghost use Rattle.ops.specs.Meaning.{copiedAt, countAt, memoryAt, zeroAt, scaledAt};
+ghost use Rattle.ops.specs.Meaning.{copiedAt, countAt, memoryAt, zeroAt, scaledAt, fixedAt};
 
 // What an operation of 3R does with three vector registers.
 pub fn three_at(op: Op) -> Three
@@ -233,5 +234,21 @@ pub fn scaled_at(op: Op) -> Scaled
         Scaled::Lsa
     } else {
         Scaled::Dlsa
+    }
+}
+
+// What an operation of 3RF does.
+pub fn fixed_at(op: Op) -> Fixed
+    ensures { λ r. ⌜ r ≡ fixedAt (op .0) ⌝ }
+{
+    let k = op.0;
+    match k {
+        420 => Fixed::MulQ,
+        421 => Fixed::MaddQ,
+        422 => Fixed::MsubQ,
+        428 => Fixed::MulrQ,
+        429 => Fixed::MaddrQ,
+        430 => Fixed::MsubrQ,
+        _ => Fixed::MsubrQ,
     }
 }

@@ -29,7 +29,7 @@ past-all m (n ∷ ns) t h =
     rw (ne-eqb n m (λ e. omega (arith, l, h, e))) (ap suc (past-all m ns (both-right (ltb n 64) (below64 ns) t) h))
 
 -- a row from 64 on has no line
-pub no-line : (m : ℕ) → 64 ≤ m → lineOf m ≡ 25
+pub no-line : (m : ℕ) → 64 ≤ m → lineOf m ≡ 27
 unfolding lineOf
 no-line m h = past-all m lines refl h
 
@@ -100,20 +100,20 @@ below f (suc n) t j h = go (eqb n j) refl (λ l. below f n (both-right (f n) (up
 
 -- the letter of a row
 abbrev pub letters : List ℕ
-letters = bytes "ABCZZZDEZFGZZHIJKLMNOPZZZZZZZZZZQZZZRZZZSZTZUZZZZZZZZZVWXZYZZZZZ"
+letters = bytes "abc|||de|fg||hijklmnop||||||||||q|||r|||s|t|u|||||||vwxyz|{|||||"
 
-pub letter-at : (m : ℕ) → m < 64 → getD letters m 0 ≡ 65 + lineOf m
+pub letter-at : (m : ℕ) → m < 64 → getD letters m 0 ≡ 97 + lineOf m
 unfolding lineOf
-letter-at m h = eqb-true _ _ (below (λ j. eqb (getD letters j 0) (65 + lineOf j)) 64 refl m h)
+letter-at m h = eqb-true _ _ (below (λ j. eqb (getD letters j 0) (97 + lineOf j)) 64 refl m h)
 
-right-at : (j : ℕ) → j < 200 → right stored j (mnemonic (placeOf j)) ≡ true
+right-at : (j : ℕ) → j < 216 → right stored j (mnemonic (placeOf j)) ≡ true
 unfolding rowAt
-right-at = below (λ j. right stored j (mnemonic (placeOf j))) 200 refl
+right-at = below (λ j. right stored j (mnemonic (placeOf j))) 216 refl
 
 -- ---- a place that stands in a line
 
 module _ (k row : ℕ) (e : row ≡ lineOf (k / 8)) where
-  module _ (h : row < 25) where
+  module _ (h : row < 27) where
     abbrev cellOf : ℕ
     cellOf = 8 * row + k % 8
 
@@ -123,7 +123,7 @@ module _ (k row : ℕ) (e : row ≡ lineOf (k / 8)) where
         let q : cellOf / 8 ≡ row = omega arith in
         let r : cellOf % 8 ≡ k % 8 = omega arith in
         let m : getD lines row 0 ≡ k / 8 =
-        subst (λ (i : ℕ). getD lines i 0 ≡ k / 8) (sym e) (found (k / 8) lines (subst (λ (i : ℕ). i < 25) e h)) in
+        subst (λ (i : ℕ). getD lines i 0 ≡ k / 8) (sym e) (found (k / 8) lines (subst (λ (i : ℕ). i < 27) e h)) in
         rw (q, r, m) (omega arith)
 
     right-here : right stored cellOf (mnemonic k) ≡ true
@@ -155,7 +155,7 @@ empty : (l : List ℕ) → length l ≡ 0 → [] ≡ l
 empty [] e = refl
 empty (x ∷ xs) e = absurd (omega (arith, e))
 
-pub no-name : (k row : ℕ) → row ≡ lineOf (k / 8) → 25 ≤ row → [] ≡ mnemonic k
+pub no-name : (k row : ℕ) → row ≡ lineOf (k / 8) → 27 ≤ row → [] ≡ mnemonic k
 unfolding lineOf
 no-name k row e h =
     let w = within (k / 8) lines in

@@ -7,7 +7,7 @@ use lib.Dec.{eqb}
 abbrev pub lines : List ℕ
 lines =
     0 ∷ 1 ∷ 2 ∷ 6 ∷ 7 ∷ 9 ∷ 10 ∷ 13 ∷ 14 ∷ 15 ∷ 16 ∷ 17 ∷ 18 ∷ 19 ∷ 20 ∷ 21
-    ∷ 32 ∷ 36 ∷ 40 ∷ 42 ∷ 44 ∷ 54 ∷ 55 ∷ 56 ∷ 58 ∷ []
+    ∷ 32 ∷ 36 ∷ 40 ∷ 42 ∷ 44 ∷ 52 ∷ 53 ∷ 54 ∷ 55 ∷ 56 ∷ 58 ∷ []
 
 -- how many stand before a number
 abbrev pub before : ℕ → List ℕ → ℕ

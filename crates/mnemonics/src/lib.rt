@@ -23,15 +23,16 @@ fn wide(x: u8) -> usize
     x as usize
 }
 
-// The line of a row of the table, a letter a row from A on; Z, past the last one, where none of its places has a name.
+// The line of a row of the table, a letter a row from a on and { after z; |, past the last one, where none of its
+// places has a name.
 fn line_of(m: usize) -> usize
     ensures { λ r. ⌜ r ≡ lineOf m ⌝ }
 {
     if 63 < m {
-        return 25;
+        return 27;
     }
-    let lines = b"ABCZZZDEZFGZZHIJKLMNOPZZZZZZZZZZQZZZRZZZSZTZUZZZZZZZZZVWXZYZZZZZ";
-    wide(lines[m]) - 65
+    let lines = b"abc|||de|fg||hijklmnop||||||||||q|||r|||s|t|u|||||||vwxyz|{|||||";
+    wide(lines[m]) - 97
 }
 
 // The mnemonic of place k; a place without one writes nothing.
@@ -40,7 +41,7 @@ pub fn put_name(line: &mut [u8], at: usize, k: usize) -> usize
     ensures { λ r. ⌜ Puts (now (line .entry)) at (mnemonic k) (now (line .exit)) r ⌝ }
 {
     let row = line_of(k / 8);
-    if 24 < row {
+    if 26 < row {
         return at;
     }
     let text = b"4ANDI    3ORI     4NORI    4XORI    0        0        0        0        \
@@ -64,6 +65,8 @@ pub fn put_name(line: &mut [u8], at: usize, k: usize) -> usize
 4SLDI    6SPLATI  6COPY_S  6COPY_U  6INSERT  5INSVE   0        0        \
 6CTCMSA  6CFCMSA  4MOVE    0        0        0        0        0        \
 3AND     2OR      3NOR     3XOR     4BMNZ    3BMZ     4BSEL    0        \
+0        0        0        0        5MUL_Q   6MADD_Q  6MSUB_Q  0        \
+0        0        0        0        6MULR_Q  7MADDR_Q 7MSUBR_Q 0        \
 4FILL    4PCNT    4NLOC    4NLZC    0        0        0        0        \
 0        0        2BZ      3BNZ     0        0        2BZ      3BNZ     \
 0        0        0        0        0        3LSA     0        0        \

@@ -11,7 +11,7 @@ use lib.ListN.{List·getD-eq-default}
 use Rattle.isa.specs.declared.Width.{Width}
 use Rattle.ops.specs.Classes.{Class}
 use Rattle.ops.specs.Classes as class
-use Rattle.ops.specs.Formats.{Formats, bhwd, hwd, bhw, b, v, bare, has}
+use Rattle.ops.specs.Formats.{Formats, bhwd, hwd, bhw, b, v, bare, hw, has}
 use Rattle.ops.specs.Table.{Row, table, rowAt, classAt, formatsAt}
 use Rattle.ops.specs.Packed.{classes, classCode, classOf, formatsCode, formatsOf, byteOf, byteAt, eight, rowWord}
 use Rattle.ops.proofs.Find.{Others, among, none, rule}
@@ -100,10 +100,11 @@ class-known =
       | class.BranchV ↦ refl
       | class.Scaled ↦ refl
       | class.LeftOut ↦ refl
+      | class.Fixed ↦ refl
     ]
 
 formats-known : (f : Formats) → formatsOf (formatsCode f) ≡ f
-formats-known = elim [ bhwd ↦ refl | hwd ↦ refl | bhw ↦ refl | b ↦ refl | v ↦ refl | bare ↦ refl ]
+formats-known = elim [ bhwd ↦ refl | hwd ↦ refl | bhw ↦ refl | b ↦ refl | v ↦ refl | bare ↦ refl | hw ↦ refl ]
 
 code-small : (k : ℕ) → classCode (classAt k) < 32
 unfolding rowAt
@@ -123,6 +124,14 @@ class-in k = rw (class-part k) (class-known (classAt k))
 pub formats-in : (k : ℕ) → formatsOf (byteAt k / 32) ≡ formatsAt k
 formats-in k = rw (formats-part k) (formats-known (formatsAt k))
 
+-- a class of one choice of formats: 3RF, as far as it is here, has H and W
+pub fixed-formats : (k : ℕ) → classAt k ≡ class.Fixed → formatsAt k ≡ hw
+unfolding rowAt
+fixed-formats k e =
+    let only : ℕ → Row → Bool = λ k r. cond (eqb (classCode (r .class)) 24) (eqb (formatsCode (r .formats)) 6) true in
+    let t : eqb (formatsCode (formatsAt k)) 6 ≡ true = rw e at (rule only (λ k. refl) table refl k) in
+    sym (formats-known (formatsAt k)) ∙ ap formatsOf (eqb-true (formatsCode (formatsAt k)) 6 t)
+
 -- ---- numbers that an enum's match leaves over
 
 abbrev pub span : ℕ → ℕ → List ℕ
@@ -138,22 +147,23 @@ among-span i (suc c) n h l = go (eqb i n) refl (λ (q : suc i ≤ n). among-span
     go true e next = refl
     go false e next = let d = eqb-false i n e in next (omega (arith, d))
 
-pub no-class : (n : ℕ) → Others n (Unit {0}) (span 1 23) → classOf n ≡ class.Reserved
+pub no-class : (n : ℕ) → Others n (Unit {0}) (span 1 24) → classOf n ≡ class.Reserved
 no-class zero h = refl
-no-class (suc n) h = go (decLt (suc n) 24)
+no-class (suc n) h = go (decLt (suc n) 25)
   where
-    go : Dec (suc n < 24) → classOf (suc n) ≡ class.Reserved
+    go : Dec (suc n < 25) → classOf (suc n) ≡ class.Reserved
     go (yes l) =
-        let f = none (suc n) (span 1 23) (Unit {0}) h .1 in
-        let t = among-span 1 23 (suc n) (omega arith) (omega arith) in
+        let f = none (suc n) (span 1 24) (Unit {0}) h .1 in
+        let t = among-span 1 24 (suc n) (omega arith) (omega arith) in
         absurd (let z : _≡_ {A = ℕ} 0 1 = cc in omega arith)
-    go (no l) = let q : 24 ≤ suc n = omega arith in List·getD-eq-default classes class.Reserved q
+    go (no l) = let q : 25 ≤ suc n = omega arith in List·getD-eq-default classes class.Reserved q
 
-pub no-form : (n : ℕ) (df : Width) → Others n (Unit {0}) (span 0 4) → has (formatsOf n) df ≡ false
-no-form zero df h = absurd (h .0 .0 .0 .1 refl)
-no-form (suc zero) df h = absurd (h .0 .0 .1 refl)
-no-form (suc (suc zero)) df h = absurd (h .0 .1 refl)
-no-form (suc (suc (suc zero))) df h = absurd (h .1 refl)
+pub no-form : (n : ℕ) (df : Width) → Others n (Unit {0}) (0 ∷ 1 ∷ 2 ∷ 3 ∷ 6 ∷ []) → has (formatsOf n) df ≡ false
+no-form zero df h = absurd (h .0 .0 .0 .0 .1 refl)
+no-form (suc zero) df h = absurd (h .0 .0 .0 .1 refl)
+no-form (suc (suc zero)) df h = absurd (h .0 .0 .1 refl)
+no-form (suc (suc (suc zero))) df h = absurd (h .0 .1 refl)
 no-form (suc (suc (suc (suc zero)))) df h = refl
 no-form (suc (suc (suc (suc (suc zero))))) df h = refl
-no-form (suc (suc (suc (suc (suc (suc n)))))) df h = refl
+no-form (suc (suc (suc (suc (suc (suc zero)))))) df h = absurd (h .1 refl)
+no-form (suc (suc (suc (suc (suc (suc (suc n))))))) df h = refl

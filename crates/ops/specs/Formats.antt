@@ -4,7 +4,7 @@ use Rattle.isa.specs.declared.Width.{Width}
 use Rattle.isa.specs.declared.Width.the-variants.{B, H, W, D}
 
 pub data Formats : Type 0 where
-  bhwd hwd bhw b v bare : Formats
+  bhwd hwd bhw b v bare hw : Formats
 
 abbrev pub has : Formats → Width → Bool
 has bhwd df = true
@@ -22,3 +22,7 @@ has b W = false
 has b D = false
 has v df = false
 has bare df = false
+has hw B = false
+has hw H = true
+has hw W = true
+has hw D = false

@@ -26,8 +26,10 @@ use Rattle.isa.specs.declared.Zero.{Zero}
 use Rattle.isa.specs.declared.Zero.the-variants.{Bnz}
 use Rattle.isa.specs.declared.Scaled.{Scaled}
 use Rattle.isa.specs.declared.Scaled.the-variants.{Dlsa}
+use Rattle.isa.specs.declared.Fixed.{Fixed}
+use Rattle.isa.specs.declared.Fixed.the-variants.{MsubrQ}
 use Rattle.ops.specs.Table.{Line, threes, indexeds, imm5Us, imm5Ss, bits, imm8s, elements, copies, vecs, counts}
-use Rattle.ops.specs.Table.{memories, branches, branchVs, scaleds}
+use Rattle.ops.specs.Table.{memories, branches, branchVs, scaleds, fixeds}
 
 -- what the line of place k does, and where none has it, what is said first
 abbrev pub meant : {A : Type 0} → A → ℕ → List (Line A) → A
@@ -63,3 +65,6 @@ zeroAt k = meant Bnz k (branches ++ branchVs)
 
 unfoldable pub scaledAt : ℕ → Scaled
 scaledAt k = meant Dlsa k scaleds
+
+unfoldable pub fixedAt : ℕ → Fixed
+fixedAt k = meant MsubrQ k fixeds

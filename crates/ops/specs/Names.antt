@@ -6,7 +6,7 @@ use Prim.Native.Nat.{ℕ}
 use lib.Dec.{eqb}
 use Rattle.fields.specs.Fields.{both}
 use Rattle.text.specs.Text.{bytes}
-use Rattle.ops.specs.Formats.{Formats, bhwd, hwd, bhw, b, v, bare}
+use Rattle.ops.specs.Formats.{Formats, bhwd, hwd, bhw, b, v, bare, hw}
 use Rattle.ops.specs.Places as place
 use Rattle.ops.specs.Table.{Row, table}
 
@@ -25,6 +25,7 @@ whole bhw = false
 whole b = false
 whole v = true
 whole bare = false
+whole hw = false
 
 abbrev pub alike : Bool → Bool → Bool
 alike a true = a

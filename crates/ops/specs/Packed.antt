@@ -4,7 +4,7 @@ use Prim.Native.Nat.{ℕ, _+_, _*_}
 use lib.ListN.{getD}
 use Rattle.ops.specs.Classes.{Class}
 use Rattle.ops.specs.Classes as class
-use Rattle.ops.specs.Formats.{Formats, bhwd, hwd, bhw, b, v, bare}
+use Rattle.ops.specs.Formats.{Formats, bhwd, hwd, bhw, b, v, bare, hw}
 use Rattle.ops.specs.Table.{Row, rowAt}
 
 abbrev pub classCode : Class → ℕ
@@ -32,6 +32,7 @@ classCode class.Branch = 20
 classCode class.BranchV = 21
 classCode class.Scaled = 22
 classCode class.LeftOut = 23
+classCode class.Fixed = 24
 
 -- the class of a number
 abbrev pub classes : List Class
@@ -39,7 +40,7 @@ classes =
     class.Reserved ∷ class.Three ∷ class.Indexed ∷ class.Imm5U ∷ class.Imm5S ∷ class.Ldi ∷ class.Bit ∷ class.Imm8
     ∷ class.Shf ∷ class.Element ∷ class.Insve ∷ class.Copy ∷ class.Insert ∷ class.Move ∷ class.Cfcmsa ∷ class.Ctcmsa
     ∷ class.Vec ∷ class.Fill ∷ class.Count ∷ class.Memory ∷ class.Branch ∷ class.BranchV ∷ class.Scaled
-    ∷ class.LeftOut ∷ []
+    ∷ class.LeftOut ∷ class.Fixed ∷ []
 
 abbrev pub classOf : ℕ → Class
 classOf n = getD classes n class.Reserved
@@ -51,9 +52,10 @@ formatsCode bhw = 2
 formatsCode b = 3
 formatsCode v = 4
 formatsCode bare = 5
+formatsCode hw = 6
 
 abbrev pub formatsOf : ℕ → Formats
-formatsOf n = getD (bhwd ∷ hwd ∷ bhw ∷ b ∷ v ∷ bare ∷ []) n bare
+formatsOf n = getD (bhwd ∷ hwd ∷ bhw ∷ b ∷ v ∷ bare ∷ hw ∷ []) n bare
 
 abbrev pub byteOf : Row → ℕ
 byteOf r = classCode (r .class) + 32 * formatsCode (r .formats)

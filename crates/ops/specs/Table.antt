@@ -41,6 +41,8 @@ use Rattle.isa.specs.declared.Zero.{Zero}
 use Rattle.isa.specs.declared.Zero.the-variants.{Bz, Bnz}
 use Rattle.isa.specs.declared.Scaled.{Scaled}
 use Rattle.isa.specs.declared.Scaled.the-variants.{Lsa, Dlsa}
+use Rattle.isa.specs.declared.Fixed.{Fixed}
+use Rattle.isa.specs.declared.Fixed.the-variants.{MulQ, MaddQ, MsubQ, MulrQ, MaddrQ, MsubrQ}
 use Rattle.isa.specs.declared.Arith.{Arith}
 use Rattle.isa.specs.declared.Arith.the-variants as arith
 use Rattle.isa.specs.declared.Three.{Three}
@@ -50,7 +52,7 @@ use Rattle.isa.specs.declared.BitOp.the-variants as bit
 use Rattle.text.specs.Text.{bytes}
 use Rattle.ops.specs.Classes.{Class}
 use Rattle.ops.specs.Classes as class
-use Rattle.ops.specs.Formats.{Formats, bhwd, hwd, bhw, b, v, bare, has}
+use Rattle.ops.specs.Formats.{Formats, bhwd, hwd, bhw, b, v, bare, hw, has}
 use Rattle.ops.specs.Places as place
 
 -- ---- a line
@@ -68,6 +70,9 @@ at place name formats does = record { place = place; name = name; formats = form
 -- their own
 abbrev op : {A : Type 0} → ℕ → ℕ → String → Formats → A → Line A
 op minor column = at (place.minor minor column)
+
+abbrev float : {A : Type 0} → ℕ → ℕ → String → Formats → A → Line A
+float minor n = at (place.float minor n)
 
 abbrev elm : {A : Type 0} → ℕ → String → Formats → A → Line A
 elm n = at (place.elm n)
@@ -341,7 +346,19 @@ scaleds =
     ∷ special 21 "DLSA" bare Dlsa
     ∷ []
 
--- ---- Tables 3.27 and 3.24: assigned, and left out here
+-- ---- Table 3.27, 3RF: bits 25..22 under the minor opcode 28
+
+abbrev pub fixeds : List (Line Fixed)
+fixeds =
+    float 28 4 "MUL_Q" hw MulQ
+    ∷ float 28 5 "MADD_Q" hw MaddQ
+    ∷ float 28 6 "MSUB_Q" hw MsubQ
+    ∷ float 28 12 "MULR_Q" hw MulrQ
+    ∷ float 28 13 "MADDR_Q" hw MaddrQ
+    ∷ float 28 14 "MSUBR_Q" hw MsubrQ
+    ∷ []
+
+-- ---- the other cells of Table 3.27, and Table 3.24: assigned, and left out here
 
 abbrev numbered : (ℕ → ℕ) → List ℕ → List ℕ
 numbered f [] = []
@@ -352,7 +369,7 @@ abbrev pub leftOut : List ℕ
 leftOut =
     numbered (place.float 26) (0 ∷ 1 ∷ 2 ∷ 3 ∷ 4 ∷ 5 ∷ 6 ∷ 7 ∷ 8 ∷ 9 ∷ 10 ∷ 11 ∷ 12 ∷ 13 ∷ 14 ∷ 15 ∷ [])
     ++ numbered (place.float 27) (0 ∷ 1 ∷ 2 ∷ 3 ∷ 4 ∷ 5 ∷ 7 ∷ 8 ∷ 10 ∷ 12 ∷ 13 ∷ 14 ∷ 15 ∷ [])
-    ++ numbered (place.float 28) (1 ∷ 2 ∷ 3 ∷ 4 ∷ 5 ∷ 6 ∷ 9 ∷ 10 ∷ 11 ∷ 12 ∷ 13 ∷ 14 ∷ [])
+    ++ numbered (place.float 28) (1 ∷ 2 ∷ 3 ∷ 9 ∷ 10 ∷ 11 ∷ [])
     ++ numbered place.vec (25 ∷ [])
 
 -- ---- the table
@@ -396,6 +413,7 @@ table =
     ++ rows class.Branch branches
     ++ rows class.BranchV branchVs
     ++ rows class.Scaled scaleds
+    ++ rows class.Fixed fixeds
     ++ left leftOut
 
 -- a place that no row has is reserved

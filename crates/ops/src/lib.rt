@@ -38,8 +38,8 @@ fn row_word(m: u32) -> u64
         49 => 0xb7b7_b7b7_b7b7_b7b7,
         50 => 0xb700_b7b7_b7b7_b7b7,
         51 => 0xb7b7_b7b7_00b7_00b7,
-        52 => 0x00b7_b7b7_b7b7_b700,
-        53 => 0x00b7_b7b7_b7b7_b700,
+        52 => 0x00d8_d8d8_b7b7_b700,
+        53 => 0x00d8_d8d8_b7b7_b700,
         54 => 0x0000_0000_1212_1211,
         55 => 0x1414_0000_9595_0000,
         56 => 0x0000_b600_0000_0000,
@@ -95,6 +95,17 @@ fn only_b(df: Width) -> bool
     }
 }
 
+fn only_hw(df: Width) -> bool
+    ensures { λ r. ⌜ r ≡ formats.has (formatsOf 6) df ⌝ }
+{
+    match df {
+        Width::B => false,
+        Width::H => true,
+        Width::W => true,
+        Width::D => false,
+    }
+}
+
 // Whether a choice of formats, by its number, has a format.
 pub fn has(n: u64, df: Width) -> bool
     ensures { λ r. ⌜ r ≡ formats.has (formatsOf n) df ⌝ }
@@ -104,6 +115,7 @@ pub fn has(n: u64, df: Width) -> bool
         1 => not_b(df),
         2 => not_d(df),
         3 => only_b(df),
+        6 => only_hw(df),
         _ => false,
     }
 }

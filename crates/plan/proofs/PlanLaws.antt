@@ -95,6 +95,7 @@ module _ (e : Env) (m : Machine) where
   executed-there (instr.Branch o df wt offset) f = tt
   executed-there (instr.BranchV o wt offset) f = tt
   executed-there (instr.Scaled o rd rs rt sa) f = f .0
+  executed-there (instr.Fixed o df wd ws wt) f = f .0
 
   unless-there : (s : Early) (p : Plan) → Names p → Names (unless s p)
   unless-there Go p h = h

@@ -17,9 +17,9 @@ use Rattle.memory.specs.File.{registerAt}
 use Rattle.memory.specs.Value.{register}
 use Rattle.order.specs.declared.Order.{Order}
 use Rattle.order.specs.Order.{turned, registerIn}
-use Rattle.ops.specs.Meaning.{threeAt, indexedAt, imm5At, bitAt, logicAt}
+use Rattle.ops.specs.Meaning.{threeAt, indexedAt, imm5At, bitAt, logicAt, fixedAt}
 use Rattle.ops.specs.Meaning.{copiedAt, countAt, memoryAt, zeroAt, scaledAt}
-use Rattle.forms.specs.Forms.{threeOf, indexedOf, imm5Of, bitOf, imm8Of, countOf}
+use Rattle.forms.specs.Forms.{threeOf, fixedOf, indexedOf, imm5Of, bitOf, imm8Of, countOf}
 use Rattle.logic.specs.Logic.{logicBit}
 use Rattle.permute.specs.Loaded as ldi
 use Rattle.permute.specs.Permute.{chosenByImmediate, withElement}
@@ -124,6 +124,9 @@ executedBy f m (instr.BranchV k wt offset) =
     plan.Branch (marked (takenVOf (zeroAt (k .0)) (registerAt (m .vec) wt)) (target (m .ctl .pc) offset))
 executedBy f m (instr.Scaled k rd rs rt sa) =
     plan.General rd (scaledOf (scaledAt (k .0)) (generalAt (m .gen) rs) (generalAt (m .gen) rt) sa)
+executedBy f m (instr.Fixed k df wd ws wt) =
+    writes wd
+    (fixedOf (fixedAt (k .0)) (bits df) (registerAt (m .vec) wd) (registerAt (m .vec) ws) (registerAt (m .vec) wt))
 
 abbrev pub executed : Env → Machine → Instr → Plan
 executed e m i = executedBy (λ o df wd a. accessed o df (e .board) (e .table) (m .vec) (m .work) wd a) m i
@@ -152,6 +155,7 @@ kindOf (instr.Memory k df wd offset rs) = Switched
 kindOf (instr.Branch k df wt offset) = Branching
 kindOf (instr.BranchV k wt offset) = Branching
 kindOf (instr.Scaled k rd rs rt sa) = Free
+kindOf (instr.Fixed k df wd ws wt) = Switched
 
 abbrev pub switchedEarly : Bool → Early
 switchedEarly true = Go

@@ -56,6 +56,7 @@ fn kind_of(i: Instr) -> Kind
         Instr::Branch { .. } => Kind::Branching,
         Instr::BranchV { .. } => Kind::Branching,
         Instr::Scaled { .. } => Kind::Free,
+        Instr::Fixed { .. } => Kind::Switched,
     }
 }
 
@@ -179,6 +180,9 @@ fn execute(
             moves::general(generals, rt),
             sa,
         ),
+        Instr::Fixed { op, df, wd, ws, wt } => {
+            vector::fixed(fixed_at(op), df, wd, ws, wt, vectors)
+        }
     }
 }
 

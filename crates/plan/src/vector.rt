@@ -3,6 +3,7 @@ use crate::Plan;
 use isa::Arith;
 use isa::BitOp;
 use isa::Count;
+use isa::Fixed;
 use isa::Indexed;
 use isa::Logic;
 use isa::Three;
@@ -10,11 +11,11 @@ use isa::Vreg;
 use isa::Width;
 use memory::file::read_register;
 ghost use mathlib.Core.Path.{_≡_};
-ghost use Prim.Native.Nat.{_<_};
+ghost use Prim.Native.Nat.{_<_, _≤_};
 ghost use lib.ListN.{length};
 ghost use Rattle.isa.specs.Widths.{bits};
 ghost use Rattle.memory.specs.File.{registerAt};
-ghost use Rattle.forms.specs.Forms.{threeOf, indexedOf, imm5Of, bitOf, imm8Of, countOf};
+ghost use Rattle.forms.specs.Forms.{threeOf, fixedOf, indexedOf, imm5Of, bitOf, imm8Of, countOf};
 ghost use Rattle.logic.specs.Logic.{logicBit};
 ghost use Rattle.permute.specs.Loaded.{loaded};
 ghost use Rattle.permute.specs.Permute.{chosenByImmediate, withElement};
@@ -30,6 +31,17 @@ pub fn three(op: Three, df: Width, wd: Vreg, ws: Vreg, wt: Vreg, vectors: &[u8])
     let s = read_register(vectors, ws);
     let t = read_register(vectors, wt);
     Plan::Vector(wd, forms::three(op, df, d, s, t))
+}
+
+pub fn fixed(op: Fixed, df: Width, wd: Vreg, ws: Vreg, wt: Vreg, vectors: &[u8]) -> Plan
+    requires { ⌜ (length (now vectors) ≡ 512) × (bits df ≤ 32) ⌝ }
+    ensures { λ r. ⌜ r ≡ writes wd (fixedOf op (bits df) (registerAt (now (vectors .entry)) wd)
+        (registerAt (now (vectors .entry)) ws) (registerAt (now (vectors .entry)) wt)) ⌝ }
+{
+    let d = read_register(vectors, wd);
+    let s = read_register(vectors, ws);
+    let t = read_register(vectors, wt);
+    Plan::Vector(wd, forms::fixed(op, df, d, s, t))
 }
 
 pub fn indexed(op: Indexed, df: Width, wd: Vreg, ws: Vreg, x: u64, vectors: &[u8]) -> Plan

@@ -16,7 +16,7 @@ use Rattle.isa.specs.declared.Read.the-variants as read
 use Rattle.ops.specs.Classes.{Class}
 use Rattle.ops.specs.Classes as class
 use Rattle.isa.specs.Numbers.{readSaid}
-use Rattle.isa.specs.Widths.{widthAt}
+use Rattle.isa.specs.Widths.{widthAt, hwAt}
 use Rattle.fields.specs.Fields.{bits, both}
 use Rattle.ops.specs.Formats.{Formats, has}
 use Rattle.ops.specs.Places as place
@@ -75,6 +75,9 @@ op k = record { 0 = k }
 
 abbrev pub df : ℕ → Width
 df w = widthAt (bits w 22 21)
+
+abbrev pub hw : ℕ → Width
+hw w = hwAt (bits w 21 21)
 
 abbrev pub vt : ℕ → Vreg
 vt w = record { 0 = bits w 20 16 }
@@ -153,6 +156,7 @@ readClass class.Branch f k w = given w (has f (df w)) (instr.Branch (op k) (df w
 readClass class.BranchV f k w = given w (eqb (bits w 22 21) 3) (instr.BranchV (op k) (vt w) (bits w 15 0))
 readClass class.Scaled f k w = given w (eqb (bits w 10 8) 0) (instr.Scaled (op k) (gs w) (ga w) (gt w) (bits w 7 6))
 readClass class.LeftOut f k w = read.Not LeftOut
+readClass class.Fixed f k w = given w (has f (hw w)) (instr.Fixed (op k) (hw w) (vd w) (vs w) (vt w))
 
 unfoldable pub readOf : ℕ → Read
 readOf w = readClass (classAt (placeOf w)) (formatsAt (placeOf w)) (placeOf w) w

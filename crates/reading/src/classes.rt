@@ -314,3 +314,17 @@ pub fn scaled(k: u16, w: u32) -> Read
     };
     given(w, w / 256 % 8 == 0, i)
 }
+
+pub fn fixed(f: u64, k: u16, w: u32) -> Read
+    ensures { λ r. ⌜ r ≡ reading.readClass class.Fixed (formatsOf f) k w ⌝ }
+{
+    let df = hw(w);
+    let i = Instr::Fixed {
+        op: Op(k),
+        df,
+        wd: vd(w),
+        ws: vs(w),
+        wt: vt(w),
+    };
+    given(w, has(f, df), i)
+}

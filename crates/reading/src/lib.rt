@@ -42,6 +42,7 @@ fn read_class(n: u64, f: u64, k: u16, w: u32) -> Read
         21 => branch_v(k, w),
         22 => scaled(k, w),
         23 => Read::Not(Unread::LeftOut),
+        24 => fixed(f, k, w),
         _ => vacant(w),
     }
 }

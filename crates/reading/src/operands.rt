@@ -1,4 +1,5 @@
 // The operands of a word, by the register file that they name and the place where they stand.
+use isa::widths::hw_at;
 use isa::widths::width_at;
 use isa::*;
 ghost use mathlib.Core.Path.{_≡_};
@@ -9,6 +10,12 @@ pub fn df(w: u32) -> Width
     ensures { λ r. ⌜ r ≡ reading.df w ⌝ }
 {
     width_at(w / 2097152 % 4)
+}
+
+pub fn hw(w: u32) -> Width
+    ensures { λ r. ⌜ r ≡ reading.hw w ⌝ }
+{
+    hw_at(w / 2097152 % 2)
 }
 
 pub fn vt(w: u32) -> Vreg

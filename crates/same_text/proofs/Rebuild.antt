@@ -13,7 +13,7 @@ use lib.ListN.{length, getD, drop}
 use Rattle.isa.specs.declared.Width.{Width}
 use Rattle.isa.specs.declared.Width.the-variants.{B, H, W, D}
 use Rattle.isa.specs.Widths as format
-use Rattle.isa.specs.Widths.{widthCode}
+use Rattle.isa.specs.Widths.{widthCode, hwCode}
 use Rattle.ops.specs.Classes.{Class}
 use Rattle.ops.specs.Classes as class
 use Rattle.ops.specs.Table.{classAt}
@@ -34,6 +34,9 @@ byLetter x b h w d = pick (eqb x 66) b (pick (eqb x 72) h (pick (eqb x 87) w d))
 unfoldable pub dfOf : ℕ → ℕ
 dfOf x = byLetter x 0 1 2 3
 
+unfoldable pub hwOf : ℕ → ℕ
+hwOf x = byLetter x 2 0 1 2
+
 unfoldable pub bitOf : ℕ → ℕ → ℕ
 bitOf x m = byLetter x (112 + m) (96 + m) (64 + m) m
 
@@ -46,6 +49,10 @@ bytesOf x = byLetter x 1 2 4 8
 pub df-letter : (df : Width) → dfOf (letter df) ≡ widthCode df
 unfolding dfOf
 df-letter = elim [ B ↦ refl | H ↦ refl | W ↦ refl | D ↦ refl ]
+
+pub hw-letter : (df : Width) → hwOf (letter df) ≡ hwCode df
+unfolding hwOf
+hw-letter = elim [ B ↦ refl | H ↦ refl | W ↦ refl | D ↦ refl ]
 
 pub bit-letter : (df : Width) (m : ℕ) → bitOf (letter df) m ≡ writing.bitCode df m
 unfolding bitOf
@@ -149,6 +156,8 @@ rebuilt class.BranchV k x l = branch k 3 l
 rebuilt class.Scaled k x l =
     wordOf writing.special (0 ∷ nth l 1 ∷ nth l 2 ∷ nth l 0 ∷ 0 ∷ (nth l 3 - 1) ∷ k % 64 ∷ [])
 rebuilt class.LeftOut k x l = 0
+rebuilt class.Fixed k x l =
+    wordOf writing.float (30 ∷ k % 16 ∷ hwOf x ∷ nth l 2 ∷ nth l 1 ∷ nth l 0 ∷ 28 ∷ [])
 
 -- by the place of the mnemonic before a letter, 86 being V
 abbrev pub placeBefore : List ℕ → ℕ → ℕ

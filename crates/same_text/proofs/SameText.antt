@@ -40,6 +40,7 @@ use Rattle.same_text.proofs.Rebuild.{
   field,
   behind,
   df-letter,
+  hw-letter,
   bit-letter,
   elm-letter,
   bytes-letter,
@@ -238,6 +239,10 @@ word-back (instr.Scaled k rd rs rt sa) f =
     (record { stands = f .4; named = refl; letter = refl })
     (record { a = below (f .0); b = below (f .1); c = below (f .2); d = omega (arith, f .3) })
     ∙ rw (let less : sa + 1 - 1 ≡ sa = omega arith in less)
+word-back (instr.Fixed k df wd ws wt) f =
+    text-word (shownOf (instr.Fixed k df wd ws wt)) class.Fixed (each _ _ df refl refl refl (f .3))
+    (record { a = below (f .0); b = below (f .1); c = below (f .2); d = tt })
+    ∙ rw (hw-letter df)
 
 -- the word of an instruction that was written
 written-word : (ok fit : Bool) (x w : ℕ) → pick ok (pick fit (Word x) Refused) Refused ≡ Word w → x ≡ w

@@ -68,3 +68,4 @@ shownOf (instr.Branch k df wt offset) =
 shownOf (instr.BranchV k wt offset) =
     shown (k .0) Whole (Vector wt) (operand.Number (signed (2 ^ 16) offset)) Nothing Nothing
 shownOf (instr.Scaled k rd rs rt sa) = shown (k .0) Bare (General rd) (General rs) (General rt) (plain (sa + 1))
+shownOf (instr.Fixed k df wd ws wt) = shown (k .0) (Each df) (Vector wd) (Vector ws) (Vector wt) Nothing

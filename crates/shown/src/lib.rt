@@ -104,5 +104,6 @@ pub fn shown_of(i: Instr) -> Shown
         Instr::Branch { op, df, wt, offset } => with_sign(op.0, Form::Each(df), wt, 65536, offset),
         Instr::BranchV { op, wt, offset } => with_sign(op.0, Form::Whole, wt, 65536, offset),
         Instr::Scaled { op, rd, rs, rt, sa } => scaled_add(op, rd, rs, rt, sa),
+        Instr::Fixed { op, df, wd, ws, wt } => three_vectors(op.0, Form::Each(df), wd, ws, wt),
     }
 }

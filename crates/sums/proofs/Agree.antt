@@ -5,6 +5,7 @@ use Prim.Native.Nat.{ℕ, _+_, _-_, _*_, _/_, _%_, _^_}
 use native.Mathlib.Omega.{arith}
 use Rattle.element.specs.Value.{signed, magnitude, wrap, clamp, sat}
 use Rattle.each.specs.Lanes.{eachLane}
+use Rattle.fixed.specs.Fixed.{product, widened, cut}
 use Rattle.linear.specs.Sums.{addv, addA, addsA, asub, subsuuS, average}
 use Rattle.memory.specs.Bytes.{number, bytesOf}
 use Rattle.memory.specs.File.{registerAt}
@@ -24,7 +25,7 @@ use Rattle.state.specs.Machine.{Env}
 use Rattle.state.specs.Windows.{placed, liesIn, missing}
 use Rattle.vectors.specs.Register.{element, build, whole}
 use Rattle.writing.specs.Writing.{writeOf}
-use Rattle.sums.specs.Sums.{Agree, names, zeros, orders, sums}
+use Rattle.sums.specs.Sums.{Agree, names, zeros, multiplies, orders, sums}
 
 -- −2 as a number of 64 bits
 minus-two : wrap 64 (signed 16 0xFFFE) ≡ 2 ^ 64 - 2
@@ -47,6 +48,10 @@ names-agree = (refl, (refl, (refl, (refl, tt))))
 pub zeros-agree : Agree zeros
 unfolding signed wrap quotient remainder eachLane build element
 zeros-agree = (refl, (refl, (refl, (refl, (refl, (refl, (refl, (refl, (refl, (refl, (refl, (refl, tt))))))))))))
+
+pub multiplies-agree : Agree multiplies
+unfolding writeOf readOf placeOf rowAt signed wrap clamp sat product widened cut eachLane build element
+multiplies-agree = (refl, (refl, (refl, (refl, (refl, (refl, (refl, (refl, (refl, (refl, (refl, tt)))))))))))
 
 pub orders-agree : (a : ℕ) → Agree (orders a)
 unfolding bytesOf turned build element planOf memoryAt generalAt registerAt number address placed missing liesIn

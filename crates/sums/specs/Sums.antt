@@ -1,5 +1,5 @@
 -- Document 01's sums marked P, in its order, one list: what the definitions give of an instruction, and what the paper
--- says; request 1/12's, of division by 0; and request 7/12's, by Table 3.1.
+-- says; request 1/12's, of division by 0; request 2/12's, of fixed-point multiplies; and request 7/12's, by Table 3.1.
 use mathlib.Core.Path.{_≡_}
 use mathlib.Core.Bool.{true}
 use mathlib.Core.List.{List, [], _∷_, _++_}
@@ -11,6 +11,8 @@ use Rattle.isa.specs.declared.Addition.the-variants.{AddA, AddsA, AveS, AverS}
 use Rattle.isa.specs.declared.Arith.{Arith}
 use Rattle.isa.specs.declared.Arith.the-variants as arith
 use Rattle.isa.specs.declared.Dot.the-variants.{DotpS}
+use Rattle.isa.specs.declared.Fixed.{Fixed}
+use Rattle.isa.specs.declared.Fixed.the-variants.{MulQ, MaddQ, MsubQ, MulrQ, MsubrQ}
 use Rattle.isa.specs.declared.Greg.{Greg}
 use Rattle.isa.specs.declared.Instr.{Instr}
 use Rattle.isa.specs.declared.Instr.the-variants as instr
@@ -30,7 +32,7 @@ use Rattle.order.specs.declared.Order.{Order}
 use Rattle.order.specs.declared.Order.the-variants.{Little, Big}
 use Rattle.ops.specs.Places as place
 use Rattle.ops.specs.Table.{rowAt}
-use Rattle.forms.specs.Forms.{threeOf}
+use Rattle.forms.specs.Forms.{threeOf, fixedOf}
 use Rattle.plan.specs.declared.Plan.the-variants as plan
 use Rattle.plan.specs.Plan.{planOf}
 use Rattle.reading.specs.Reading.{readOf}
@@ -131,6 +133,40 @@ zeros =
     ∷ byteByZero ModU 0x80 0x80
     ∷ byteByZero ModU 0x7F 0x7F
     ∷ byteByZero ModU 0x00 0x00
+    ∷ []
+
+-- ---- fixed-point multiplies
+
+-- MSUBR_Q.W $w23,$w11,$w27
+abbrev msubr : Instr
+msubr = instr.Fixed (op (place.float 28 14)) W ($w 23) ($w 11) ($w 27)
+
+-- a register with x in each of its words
+abbrev words : ℕ → ℕ
+words x = x * 0x00000001000000010000000100000001
+
+-- of halfwords and of words s and t, and of the old destination d
+abbrev ofHalves : Fixed → ℕ → ℕ → ℕ → ℕ → Sum
+ofHalves o d s t r = sum (fixedOf o 16 (halves d) (halves s) (halves t)) (halves r)
+
+abbrev ofWords : Fixed → ℕ → ℕ → ℕ → ℕ → Sum
+ofWords o d s t r = sum (fixedOf o 32 (words d) (words s) (words t)) (words r)
+
+-- −1 times −1 is the largest; half a unit is rounded up, and cut off; a sum is clamped, at the top and at the bottom; a
+-- product of 1 is not clamped before the sum; minus half a unit is cut to minus one unit, and rounded to 0
+abbrev pub multiplies : List Sum
+multiplies =
+    sum (writeOf msubr) (Word 0x7BBB5DDC)
+    ∷ sum (readOf 0x7BBB5DDC) (read.Instr msubr)
+    ∷ ofHalves MulQ 0x0000 0x8000 0x8000 0x7FFF
+    ∷ ofHalves MulrQ 0x0000 0x4000 0x0001 0x0001
+    ∷ ofHalves MulQ 0x0000 0x4000 0x0001 0x0000
+    ∷ ofHalves MaddQ 0x7FFF 0x4000 0x4000 0x7FFF
+    ∷ ofHalves MsubQ 0x8000 0x8000 0x8000 0x8000
+    ∷ ofWords MaddQ 0x80000000 0x80000000 0x80000000 0x00000000
+    ∷ ofWords MulQ 0x00000000 0xFFFFFFFF 0x40000000 0xFFFFFFFF
+    ∷ ofWords MulrQ 0x00000000 0xFFFFFFFF 0x40000000 0x00000000
+    ∷ ofHalves MsubrQ 0x0000 0x4000 0x0001 0x0000
     ∷ []
 
 -- ---- byte order

@@ -86,6 +86,9 @@ formed (instr.Branch k df wt offset) f =
     (at f 3, at f 4, o .0, o .1)
 formed (instr.BranchV k wt offset) f = (at f 3, at f 4, class-is class.BranchV (k .0) (f .ok))
 formed (instr.Scaled k rd rs rt sa) f = (at f 3, at f 1, at f 2, at f 5, class-is class.Scaled (k .0) (f .ok))
+formed (instr.Fixed k df wd ws wt) f =
+    let o = of class.Fixed (k .0) (hasForm (k .0) df) (f .ok) in
+    (at f 5, at f 4, at f 3, o .0, o .1)
 
 pub write-formed : theorems.WriteFormed
 write-formed i w e = formed i (fit i w e)

@@ -209,6 +209,7 @@ standing class.Branch k = inside branch k
 standing class.BranchV k = inside branch k
 standing class.Scaled k = inside special k
 standing class.LeftOut k = cond (ltb k 384) (inside vec k) (inside float k)
+standing class.Fixed k = both (inside float k) (leb (place.float 28 0) k)
 
 stands-at : (k : ℕ) → standing (classAt k) k ≡ true
 unfolding rowAt
@@ -216,6 +217,13 @@ stands-at k = rule (λ k r. standing (r .class) k) (λ k. refl) table refl k
 
 pub stood : (c : Class) (k : ℕ) → classAt k ≡ c → standing c k ≡ true
 stood c k e = rw e at (stands-at k)
+
+-- the places of the minor opcode 28
+pub at-28 : (k : ℕ) → standing class.Fixed k ≡ true → (416 ≤ k) × (k < 432)
+at-28 k t = (
+  leb-true 416 k (both-right (inside float k) (leb 416 k) t),
+  most float k (both-left (inside float k) (leb 416 k) t),
+)
 
 -- a class that stands alone, at its place
 pub sole : (c : Class) (k n : ℕ) → classAt k ≡ c → standing c k ≡ eqb k n → k ≡ n
@@ -270,6 +278,12 @@ module _ (w k : ℕ) where
     to-elm62 c m n t =
         let r = within elm62 k t in
         high (omega arith) ∙ rw (lt-ltb (bits w 5 0) 26 (omega arith), eq-eqb (bits w 21 16) 62 n) (omega arith)
+
+    pub to-float : bits w 25 22 ≡ k % 16 → bits w 5 0 ≡ 28 → standing class.Fixed k ≡ true → placeOf w ≡ k
+    to-float c m t =
+        let r = at-28 k t in
+        high (omega arith)
+        ∙ rw (le-ltb (bits w 5 0) 26 (omega arith), lt-ltb (bits w 5 0) 29 (omega arith)) (omega arith)
 
     at-30 : bits w 5 0 ≡ 30 → placeOf w ≡ placeIn (cond (eqb (bits w 25 21) 24) two vec) w
     at-30 m =

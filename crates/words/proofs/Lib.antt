@@ -1,4 +1,5 @@
 pub mod Blocks
+pub mod Fixed
 pub mod ReadWrite
 pub mod WriteRead
 pub mod Answers

@@ -14,7 +14,7 @@ use Rattle.isa.specs.declared.Read.{Read}
 use Rattle.isa.specs.declared.Read.the-variants as read
 use Rattle.isa.specs.declared.Written.the-variants.{Word}
 use Rattle.isa.specs.Widths as format
-use Rattle.isa.specs.Widths.{widthAt, widthCode}
+use Rattle.isa.specs.Widths.{widthAt, widthCode, hwAt, hwCode}
 use Rattle.ops.specs.Classes.{Class}
 use Rattle.ops.specs.Classes as class
 use Rattle.ops.specs.Places as place
@@ -25,13 +25,13 @@ use Rattle.reading.specs.Index.{at, bitIndex, elementIndex}
 use Rattle.reading.proofs.Ranges.{by-range}
 use Rattle.reading.specs.Reading as reading
 use Rattle.reading.specs.Reading.{Block, i8, minor, elm, elm62, vec, float, two, mi10, branch, special, shf}
-use Rattle.reading.specs.Reading.{placeIn, placeOf, op, df, vd, vs, vt, ga, gd, gs, gt, readOf, readClass, vacant}
+use Rattle.reading.specs.Reading.{placeIn, placeOf, op, df, hw, vd, vs, vt, ga, gd, gs, gt, readOf, readClass, vacant}
 use Rattle.writing.specs.Writing as writing
 use Rattle.writing.specs.Writing.{writeOf, layoutOf}
 use Rattle.words.specs.Theorems.{ReadWrite}
 use Rattle.fields.proofs.Fields.{both-left, both-right, cut, word-cut, fits-cut}
 use Rattle.writing.proofs.Shapes.{shaped}
-use Rattle.words.proofs.Blocks.{Facts, inside, cond-elim, below, found, standing, stood, sole}
+use Rattle.words.proofs.Blocks.{Facts, inside, cond-elim, below, found, standing, stood, at-28, sole}
 
 -- an instruction whose fields are those of the word is written as the word
 writes : (i : Instr) (w : ℕ) → w < 4294967296 → layoutOf i .ok ≡ true
@@ -48,6 +48,11 @@ code-width (suc zero) h = refl
 code-width (suc (suc zero)) h = refl
 code-width (suc (suc (suc zero))) h = refl
 code-width (suc (suc (suc (suc k)))) h = absurd (omega arith)
+
+code-hw : (k : ℕ) → k < 2 → hwCode (hwAt k) ≡ k
+code-hw zero h = refl
+code-hw (suc zero) h = refl
+code-hw (suc (suc k)) h = absurd (omega arith)
 
 -- field by field
 fields : {a b c d e f g a′ b′ c′ d′ e′ f′ g′ : ℕ} → a ≡ a′ → b ≡ b′ → c ≡ c′ → d ≡ d′ → e ≡ e′ → f ≡ f′ → g ≡ g′
@@ -277,6 +282,14 @@ module _ (w : ℕ) (h : w < 4294967296) where
       given-back (eqb (bits w 10 8) 0) (instr.Scaled (op k) (gs w) (ga w) (gt w) (bits w 7 6)) (λ ok. writes _ w h
       (rw e) (fields (f .0) refl refl refl (sym (eqb-true _ _ ok)) refl (omega arith)))
   class-back class.LeftOut e = left-back (ltb k 384) (stood class.LeftOut k e)
+  class-back class.Fixed e =
+      let s = stood class.Fixed k e in
+      let f = found w float (both-left (inside float k) _ s) in
+      let r = at-28 k s in
+      let p = f .1 in
+      given-back (hasForm k (hw w)) (instr.Fixed (op k) (hw w) (vd w) (vs w) (vt w))
+      (λ ok. writes _ w h (rw (e, ok)) (fields (f .0 .0) (omega arith) (code-hw (bits w 21 21) (omega arith))
+      refl refl refl (omega arith)))
 
   pub back : Back w (readOf w)
   unfolding readOf

@@ -25,6 +25,7 @@ use Rattle.writing.specs.Writing.{writeOf, layoutOf, bitCode, elementCode}
 use Rattle.words.specs.Formed.{Formed}
 use Rattle.words.specs.Theorems as theorems
 use Rattle.words.proofs.Blocks.{inside, most, standing, stood}
+use Rattle.words.proofs.Fixed.{fixed-bit}
 
 -- the row of an operation that stands under a minor opcode
 row : (c : Class) (k : ℕ) → classAt k ≡ c → standing c k ≡ inside minor k → ltb (k / 8) 64 ≡ true
@@ -37,6 +38,9 @@ half k e = rw e at (rule (λ k r. cond (eqb (classCode (r .class)) 7) (ltb (k % 
 
 column : (n : ℕ) → ltb (n % 8) 8 ≡ true
 column n = lt-ltb (n % 8) 8 (omega arith)
+
+column16 : (n : ℕ) → ltb (n % 16) 16 ≡ true
+column16 n = lt-ltb (n % 16) 16 (omega arith)
 
 reg : {n : ℕ} → n < 32 → ltb n 32 ≡ true
 reg {n} h = lt-ltb n 32 h
@@ -90,10 +94,10 @@ formed-writes (instr.Shf df wd ws imm) p = written _ (p .3) (rw (
 ))
 formed-writes (instr.Element k df wd ws n) p =
     written _ (rw (p .3, p .4, lt-ltb n (format.elements df) (p .2)))
-    (rw (lt-ltb (k .0 % 16) 16 (omega arith), element-field df n (p .2), reg (p .1), reg (p .0)))
+    (rw (column16 (k .0), element-field df n (p .2), reg (p .1), reg (p .0)))
 formed-writes (instr.Copy k df rd ws n) p =
     written _ (rw (p .3, p .4, lt-ltb n (format.elements df) (p .2)))
-    (rw (lt-ltb (k .0 % 16) 16 (omega arith), element-field df n (p .2), reg (p .1), reg (p .0)))
+    (rw (column16 (k .0), element-field df n (p .2), reg (p .1), reg (p .0)))
 formed-writes (instr.Insve df wd n ws) p =
     written _ (rw (p .3, lt-ltb n (format.elements df) (p .1))) (rw (element-field df n (p .1), reg (p .2), reg (p .0)))
 formed-writes (instr.Insert df wd n rs) p =
@@ -117,3 +121,6 @@ formed-writes (instr.BranchV k wt offset) p =
 formed-writes (instr.Scaled k rd rs rt sa) p =
     written _ (rw (p .4))
     (rw (reg (p .1), reg (p .2), reg (p .0), lt-ltb sa 4 (p .3), lt-ltb (k .0 % 64) 64 (omega arith)))
+formed-writes (instr.Fixed k df wd ws wt) p =
+    written _ (rw (p .3, p .4))
+    (rw (column16 (k .0), fixed-bit (k .0) df (p .3) (p .4), reg (p .2), reg (p .1), reg (p .0)))

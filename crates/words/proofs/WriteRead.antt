@@ -30,7 +30,8 @@ use Rattle.words.specs.Theorems.{WriteRead, WriteBelow}
 use Rattle.fields.proofs.Fields.{both-left, both-right, cut, cut-word, word-lt, item}
 use Rattle.writing.proofs.Shapes.{shaped}
 use Rattle.words.proofs.Blocks.{inside, standing, stood, class-is, to-minor, to-i8, to-shf, to-elm, to-elm62}
-use Rattle.words.proofs.Blocks.{to-vec, to-two, to-mi10, to-branch, to-special}
+use Rattle.words.proofs.Blocks.{to-float, to-vec, to-two, to-mi10, to-branch, to-special}
+use Rattle.words.proofs.Fixed.{fixed-format}
 
 -- what is known of an instruction that was written
 pub record Fit (i : Instr) (w : ℕ) : Type 0 where
@@ -270,6 +271,12 @@ reads (instr.Scaled k rd rs rt sa) w f =
     let e = class-is class.Scaled (k .0) (f .ok) in
     by w (k .0) class.Scaled (to-special w (k .0) (item h 0) (item h 6) (stood class.Scaled (k .0) e)) e
     ∙ rw (item h 4, item h 1, item h 2, item h 3, item h 5)
+reads (instr.Fixed k df wd ws wt) w f =
+    let h = f .held in
+    let o = of class.Fixed (k .0) (hasForm (k .0) df) (f .ok) in
+    by w (k .0) class.Fixed (to-float w (k .0) (item h 0) (item h 1) (item h 6) (stood class.Fixed (k .0)
+    (o .0))) (o .0)
+    ∙ rw (item h 2, fixed-format (k .0) df (o .0) (o .1), o .1, item h 3, item h 4, item h 5)
 
 -- each instruction that can be written reads back as itself
 pub write-read : WriteRead

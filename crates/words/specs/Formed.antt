@@ -55,3 +55,4 @@ Formed (instr.Memory k df wd offset rs) = vector wd × (offset < 1024) × genera
 Formed (instr.Branch k df wt offset) = vector wt × (offset < 65536) × of class.Branch k × has (k .0) df
 Formed (instr.BranchV k wt offset) = vector wt × (offset < 65536) × of class.BranchV k
 Formed (instr.Scaled k rd rs rt sa) = general rd × general rs × general rt × (sa < 4) × of class.Scaled k
+Formed (instr.Fixed k df wd ws wt) = vector wd × vector ws × vector wt × of class.Fixed k × has (k .0) df

@@ -42,6 +42,7 @@ fn of_vectors(class: u8, op: Op, df: Width, wd: Vreg, ws: Vreg, c: u8, imm: u8) 
         9 => Instr::Insve { df, wd, n, ws },
         12 => Instr::Move { wd, ws },
         15 => Instr::Vec { op, wd, ws, wt },
+        22 => Instr::Fixed { op, df, wd, ws, wt },
         _ => Instr::Count { op, df, wd, ws },
     }
 }

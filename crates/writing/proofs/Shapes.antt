@@ -34,3 +34,4 @@ shaped (instr.Memory k df wd offset rs) = seven refl
 shaped (instr.Branch k df wt offset) = seven refl
 shaped (instr.BranchV k wt offset) = seven refl
 shaped (instr.Scaled k rd rs rt sa) = seven refl
+shaped (instr.Fixed k df wd ws wt) = seven refl

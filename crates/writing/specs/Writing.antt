@@ -22,7 +22,7 @@ use Rattle.ops.specs.Places as place
 use Rattle.ops.specs.Table.{classAt, hasForm}
 use Rattle.isa.specs.Numbers.{writtenSaid}
 use Rattle.isa.specs.Widths as format
-use Rattle.isa.specs.Widths.{widthCode}
+use Rattle.isa.specs.Widths.{widthCode, hwCode}
 
 -- the widths of the fields, Figures 3-36 to 3-47 and the page of LSA; seven each, the last ones 0 where there are fewer
 abbrev pub i8 : List ℕ
@@ -42,6 +42,9 @@ elm = 6 ∷ 4 ∷ 6 ∷ 5 ∷ 5 ∷ 6 ∷ 0 ∷ []
 
 abbrev pub vec : List ℕ
 vec = 6 ∷ 5 ∷ 5 ∷ 5 ∷ 5 ∷ 6 ∷ 0 ∷ []
+
+abbrev pub float : List ℕ
+float = 6 ∷ 4 ∷ 1 ∷ 5 ∷ 5 ∷ 5 ∷ 6 ∷ []
 
 abbrev pub two : List ℕ
 two = 6 ∷ 5 ∷ 3 ∷ 2 ∷ 5 ∷ 5 ∷ 6 ∷ []
@@ -130,6 +133,8 @@ layoutOf (instr.Branch k df wt offset) = branchLayout (formed class.Branch k df)
 layoutOf (instr.BranchV k wt offset) = branchLayout (stands class.BranchV k) k 3 (wt .0) offset
 layoutOf (instr.Scaled k rd rs rt sa) =
     layout (stands class.Scaled k) special (0 ∷ rs .0 ∷ rt .0 ∷ rd .0 ∷ 0 ∷ sa ∷ k .0 % 64 ∷ [])
+layoutOf (instr.Fixed k df wd ws wt) =
+    layout (formed class.Fixed k df) float (30 ∷ k .0 % 16 ∷ hwCode df ∷ wt .0 ∷ ws .0 ∷ wd .0 ∷ 28 ∷ [])
 
 -- seven fields that fill a word
 pub record Shaped (widths values : List ℕ) : Type 0 where

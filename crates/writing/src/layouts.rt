@@ -5,6 +5,7 @@ use crate::places::bit_code;
 use crate::places::bit_size;
 use crate::places::element_code;
 use crate::places::element_count;
+use isa::widths::hw_code;
 use isa::widths::width_code;
 use isa::*;
 use ops::has_form;
@@ -28,6 +29,8 @@ const BIT: [u32; 7] = [6, 3, 7, 5, 5, 6, 0];
 const ELM: [u32; 7] = [6, 4, 6, 5, 5, 6, 0];
 
 const VEC: [u32; 7] = [6, 5, 5, 5, 5, 6, 0];
+
+const FLOAT: [u32; 7] = [6, 4, 1, 5, 5, 5, 6];
 
 const TWO: [u32; 7] = [6, 5, 3, 2, 5, 5, 6];
 
@@ -291,6 +294,25 @@ pub fn scaled(op: Op, rd: Greg, rs: Greg, rt: Greg, sa: u8) -> Layout
             0,
             sa as u32,
             k % 64,
+        ],
+    }
+}
+
+pub fn fixed(op: Op, df: Width, wd: Vreg, ws: Vreg, wt: Vreg) -> Layout
+    ensures { λ r. ⌜ r ≡ writing.layoutOf (Instr.Fixed op df wd ws wt) ⌝ }
+{
+    let k = op.0 as u32;
+    Layout {
+        ok: formed(op, 24, df),
+        widths: FLOAT,
+        values: [
+            30,
+            k % 16,
+            hw_code(df),
+            wt.0 as u32,
+            ws.0 as u32,
+            wd.0 as u32,
+            28,
         ],
     }
 }

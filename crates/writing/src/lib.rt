@@ -61,6 +61,7 @@ fn layout_of(i: Instr) -> Layout
         Instr::Branch { op, df, wt, offset } => branch(op, df, wt, offset),
         Instr::BranchV { op, wt, offset } => branch_v(op, wt, offset),
         Instr::Scaled { op, rd, rs, rt, sa } => scaled(op, rd, rs, rt, sa),
+        Instr::Fixed { op, df, wd, ws, wt } => fixed(op, df, wd, ws, wt),
     }
 }
 

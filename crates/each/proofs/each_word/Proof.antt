@@ -34,5 +34,6 @@ loop-again c = rw (c .joined .ensures, c .before .lane-at .ensures) (built-more 
 pub each-word-spec : {M : Type 1} → statement M
 each-word-spec =
     tie.close (tie.spec Inv-loop μ-loop
-    (λ c κs. search needs) loop-holds (λ c. omega arith) (λ c κs. omega arith) joined-requires (λ c. omega arith) loop-again
+    (λ c κs. search needs) loop-holds (λ c. omega arith)
+    (λ c κs. (omega arith, c .before .before .before .pre)) joined-requires (λ c. omega arith) loop-again
     (λ c. built-all (c .before .loop .inv) (c .loop-test .left)))

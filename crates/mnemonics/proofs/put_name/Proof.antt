@@ -13,7 +13,7 @@ use Rattle.mnemonics.proofs.put_name.Statement.{statement}
 use Rattle.mnemonics.proofs.put_name.Tie as tie
 
 -- the part of the text that is the name, its length as the digit says
-named : (k row n : ℕ) → row ≡ lineOf (k / 8) → row < 25 → n ≡ 48 + length (mnemonic k)
+named : (k row n : ℕ) → row ≡ lineOf (k / 8) → row < 27 → n ≡ 48 + length (mnemonic k)
     → take (n - 48) (drop (9 * (8 * row + k % 8) + 1) stored) ≡ mnemonic k
 named k row n l h e =
     let q : n - 48 ≡ length (mnemonic k) = omega (arith, e) in

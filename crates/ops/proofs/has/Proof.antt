@@ -9,9 +9,10 @@ pub has-spec : {M : Type 1} → statement M
 has-spec =
     tie.close
     (tie.spec
-    (λ c κs. search needs) (λ c κs. search needs) (λ c κs. search needs)
+    (λ c κs. search needs) (λ c κs. search needs) (λ c κs. search needs) (λ c κs. search needs)
     (λ c. rw (c .match .keys1))
     (λ c. rw (c .before .match .keys2) (c .not-b .ensures))
     (λ c. rw (c .before .match .keys3) (c .not-d .ensures))
     (λ c. rw (c .before .match .keys4) (c .only-b .ensures))
+    (λ c. rw (c .before .match .keys5) (c .only-hw .ensures))
     (λ c. sym (no-form (c .before .args .n) (c .before .args .df) (c .match .rest))))

@@ -1,6 +1,7 @@
 -- `plan::planned::execute`: in each arm the instruction is known, and so is what the reader keeps of it. Assumes
 -- nothing.
 use borrow.Author.Needs.{needs}
+use Rattle.words.proofs.Fixed.{fixed-narrow}
 use Rattle.plan.proofs.planned.execute.Statement.{statement}
 use Rattle.plan.proofs.planned.execute.Tie as tie
 
@@ -17,6 +18,12 @@ scaled-requires c κs =
     at (c .before .before .before .before .before .before .before .before .before .before .pre .2)
     in
     search needs
+
+fixed-requires : tie.Need-fixed-requires
+fixed-requires c κs =
+    let pre = c .before .before .before .before .before .before .before .before .pre in
+    let f = rw (c .before .before .i23 .given .1) at (pre .2) in
+    (pre .0, fixed-narrow _ _ (f .3) (f .4))
 
 returns : tie.Need-returns
 returns c = rw (c .before .before .before .i .given .1, ← c .before .three-at .ensures) (c .three .ensures)
@@ -104,6 +111,9 @@ returns-22 c =
     )
     (c .scaled .ensures)
 
+returns-23 : tie.Need-returns-23
+returns-23 c = rw (c .before .before .before .i23 .given .1, ← c .before .fixed-at .ensures) (c .fixed .ensures)
+
 pub execute-spec : {M : Type 1} → statement M
 execute-spec =
     tie.close (tie.spec
@@ -120,6 +130,6 @@ execute-spec =
     (λ c κs. search needs) (λ c. search needs) (λ c κs. search needs) (λ c κs. search needs) address-requires
     (λ c κs. search needs) (λ c. search needs) (λ c κs. search needs) (λ c κs. search needs) (λ c. search needs)
     (λ c κs. search needs) (λ c κs. search needs) (λ c. search needs) (λ c κs. search needs) (λ c κs. search needs)
-    (λ c κs. search needs) scaled-requires returns returns-2 returns-3 returns-4 returns-5 returns-6 returns-7
+    (λ c κs. search needs) scaled-requires (λ c. search needs) (λ c κs. search needs) fixed-requires returns returns-2 returns-3 returns-4 returns-5 returns-6 returns-7
     returns-8 returns-9 returns-10 returns-11 returns-12 returns-13 returns-14 returns-15 returns-16 returns-17
-    returns-18 returns-19 returns-20 returns-21 returns-22)
+    returns-18 returns-19 returns-20 returns-21 returns-22 returns-23)
