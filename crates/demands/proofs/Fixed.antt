@@ -1,7 +1,6 @@
 -- Fixed-point multiplies of an instruction: its table's line, then lane by lane. Assumes nothing.
-use mathlib.Core.Path.{_≡_, refl, ap, _∙_}
+use mathlib.Core.Path.{_≡_, refl, ap}
 use Prim.Native.Nat.{ℕ}
-use native.Mathlib.Omega.{arith}
 use Rattle.isa.specs.declared.Fixed.{Fixed}
 use Rattle.isa.specs.declared.Fixed.the-variants.{MulQ, MaddQ, MsubQ, MulrQ, MaddrQ, MsubrQ}
 use Rattle.isa.specs.declared.Vreg.{Vreg}
@@ -36,8 +35,8 @@ lanes-are : (o : Fixed) (df : Width) (wd ws wt : Vreg) → EachLane (multiplying
     (λ m i r. r ≡ fixedOf o (bits df) (laneAt df (m .vec) wd i) (laneAt df (m .vec) ws i) (laneAt df (m .vec) wt i))
 lanes-are o df wd ws wt p e m w ok there reads done i h =
     let old : Vreg → ℕ = registerAt (m .vec) in
-    lane-after (multiplying o df wd ws wt) wd _ p e m w ok there reads done refl refl (lane.Fixed o) df (old wd) (old ws)
-    (old wt) (ap (λ x. forms.fixedOf x (bits df) (old wd) (old ws) (old wt)) (table-line o)) i h
+    lane-after (multiplying o df wd ws wt) wd _ p e m w ok there reads done refl refl (lane.Fixed o) df (old wd)
+    (old ws) (old wt) (ap (λ x. forms.fixedOf x (bits df) (old wd) (old ws) (old wt)) (table-line o)) i h
 
 pub stands-lanes : StandsLanes
 stands-lanes o df wd ws wt p e m w ok there reads done i h =

@@ -9,7 +9,7 @@ use Rattle.isa.specs.declared.Instr.the-variants as instr
 use Rattle.isa.specs.declared.Vreg.{Vreg}
 use Rattle.isa.specs.declared.Width.{Width}
 use Rattle.isa.specs.Widths.{bits}
-use Rattle.fixed.specs.Stands.{rounded, Stands, Alone, fixedIn, Multiplied}
+use Rattle.fixed.specs.Stands.{uncut, Stands, Alone, fixedIn, Multiplied}
 use Rattle.ops.specs.Places as place
 use Rattle.demands.specs.Lanes.{laneAt, EachLane}
 
@@ -31,7 +31,7 @@ StandsLanes =
     → EachLane (multiplying o df wd ws wt) df wd
     (λ m i r.
     Stands (bits df)
-    (rounded o (bits df) (laneAt df (m .vec) wd i) (laneAt df (m .vec) ws i) (laneAt df (m .vec) wt i)) r)
+    (uncut o (bits df) (laneAt df (m .vec) wd i) (laneAt df (m .vec) ws i) (laneAt df (m .vec) wt i)) r)
 
 abbrev pub MultipliesLanes : Type 0
 MultipliesLanes =

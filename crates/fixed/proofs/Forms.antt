@@ -16,7 +16,7 @@ use Rattle.element.proofs.Readings.{sat-view}
 use Rattle.element.proofs.Views.{flip-below, signed-diff}
 use Rattle.element.proofs.Widths.{Size}
 use Rattle.fixed.specs.Factor.{factor}
-use Rattle.fixed.specs.Fixed.{product, widened, summed, half, cut}
+use Rattle.fixed.specs.Fixed.{product, widened, summed, rounding, cut}
 
 module _ (n : ℕ) (size : Size n) {s t : ℕ} (e : Elements n s t) where
   pub product-diff : Diff (product n s t) (flip n s * flip n t + top n * top n) (flip n s * top n + top n * flip n t)
@@ -37,7 +37,7 @@ module _ (n : ℕ) (size : Size n) {s t : ℕ} (e : Elements n s t) where
     widened-diff = diff-to (diff-mul (signed-diff n size old) (diff-pos (top n))) (omega arith)
 
     -- the exact number, over a multiple of 2^(n − 1)
-    pub summed-diff : (minus : Bool)
+    summed-diff : (minus : Bool)
         → Diff (summed minus n d s t) (flip n s * factor minus n t + (flip n d + top n) * top n)
         ((top n + flip n s + factor minus n t) * top n)
     summed-diff false = diff-to (diff-add widened-diff product-diff) (omega arith)
@@ -48,12 +48,12 @@ module _ (n : ℕ) (size : Size n) {s t : ℕ} (e : Elements n s t) where
         (omega (arith, ap (λ x. flip n s * x) whole, ap (λ x. top n * x) whole))
 
     pub cut-form : (rounded minus : Bool) → cut rounded n (summed minus n d s t)
-        ≡ flip n (min (flip n d + ((flip n s * factor minus n t + half rounded n) / top n + top n)
+        ≡ flip n (min (flip n d + ((flip n s * factor minus n t + rounding rounded n) / top n + top n)
         - (flip n s + factor minus n t)) (2 ^ n - 1))
     unfolding cut
     cut-form rounded minus =
-        let x : ℕ = flip n s * factor minus n t + half rounded n in
+        let x : ℕ = flip n s * factor minus n t + rounding rounded n in
         sat-view n size Signed
         (diff-shr {a = x + (flip n d + top n) * top n} {b = top n + flip n s + factor minus n t} (top n) (size .some)
-        (diff-to (diff-add (summed-diff minus) (diff-pos (half rounded n))) (omega arith)))
+        (diff-to (diff-add (summed-diff minus) (diff-pos (rounding rounded n))) (omega arith)))
         ∙ ap (flip n) (omega (arith, add-mul-div-right x (flip n d + top n) (size .some)))

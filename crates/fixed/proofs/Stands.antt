@@ -80,11 +80,13 @@ module _ (n : ℕ) (size : Size n) where
     cut-stands =
         rw made
         (record {
+          small = flip-below n size (omega (arith, size .twice, size .some));
           least = least;
           most = most;
           largest =
               λ h. let e : u ≡ 2 ^ n - 1 = omega (arith, is-over h, size .twice) in
-              ap (flip n) e ∙ flip-down n (2 ^ n - 1) (omega (arith, size .twice, size .some)) ∙ omega (arith, size .twice);
+              ap (flip n) e ∙ flip-down n (2 ^ n - 1) (omega (arith, size .twice, size .some))
+              ∙ omega (arith, size .twice);
           lowest =
               λ h. let e : u ≡ 0 = omega (arith, is-under h) in
               ap (flip n) e ∙ flip-up n 0 (size .some) ∙ omega arith;

@@ -18,13 +18,13 @@ unfoldable pub widened : ℕ → ℕ → ℤ
 widened n d = signed n d *ℤ pos (top n)
 
 -- where the name has R: 1 at the most significant bit that the cut discards
-abbrev pub half : Bool → ℕ → ℕ
-half false n = 0
-half true n = 2 ^ (n - 2)
+abbrev pub rounding : Bool → ℕ → ℕ
+rounding false n = 0
+rounding true n = 2 ^ (n - 2)
 
 -- the element for an exact number. `shrZ z m` is the floor of z / m
 unfoldable pub cut : Bool → ℕ → ℤ → ℕ
-cut rounded n z = sat Signed n (shrZ (z +ℤ pos (half rounded n)) (top n))
+cut rounded n z = sat Signed n (shrZ (z +ℤ pos (rounding rounded n)) (top n))
 
 -- the product is added to the old destination, or subtracted from it
 abbrev pub summed : Bool → ℕ → ℕ → ℕ → ℕ → ℤ

@@ -23,13 +23,16 @@ fn factor(w: Width, minus: bool, t: u64) -> u64
     if minus { ones(w) - v + 1 } else { v }
 }
 
-fn half_of(w: Width, rounded: bool) -> u64
-    ensures { λ r. ⌜ r ≡ fixeds.half rounded (bits w) ⌝ }
+// What rounding adds.
+fn rounding(w: Width, rounded: bool) -> u64
+    ensures { λ r. ⌜ r ≡ fixeds.rounding rounded (bits w) ⌝ }
 {
     if rounded { half(w) / 2 } else { 0 }
 }
 
-// d with the product of s and t added, or subtracted.
+// d with the product of s and t added, or subtracted. With one for 2^(n - 1), the product of the views s + one and
+// t + one is that of s and t, and one times s + t + one more: this is taken off after the cut. At the product's scale d
+// is a multiple of one, so it is added after the cut too.
 fn summed(w: Width, rounded: bool, minus: bool, d: u64, s: u64, t: u64) -> u64
     requires { ⌜ (d < 2 ^ bits w) × Elements (bits w) s t × (bits w ≤ 32) ⌝ }
     ensures { λ r. ⌜ r ≡ fixeds.cut rounded (bits w) (fixeds.summed minus (bits w) d s t) ⌝ }
@@ -37,7 +40,7 @@ fn summed(w: Width, rounded: bool, minus: bool, d: u64, s: u64, t: u64) -> u64
     let a = flip(w, s);
     let b = factor(w, minus, t);
     let one = half(w);
-    let q = (a * b + half_of(w, rounded)) / one;
+    let q = (a * b + rounding(w, rounded)) / one;
     flip(w, clip(w, flip(w, d), q + one, a + b))
 }
 

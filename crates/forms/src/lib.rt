@@ -38,7 +38,7 @@ pub fn three(op: Three, w: Width, d: Register, s: Register, t: Register) -> Regi
     }
 }
 
-// 3RF, the fixed-point multiplies: formats H and W, of which 64 bits hold the products.
+// 3RF, the fixed-point multiplies, in formats of which 64 bits hold the products.
 pub fn fixed(op: Fixed, w: Width, d: Register, s: Register, t: Register) -> Register
     requires { ⌜ bits w ≤ 32 ⌝ }
     ensures { λ r. ⌜ r ≡ register (fixedOf op (bits w) (value d) (value s) (value t)) ⌝ }

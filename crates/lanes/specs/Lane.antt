@@ -14,6 +14,7 @@ laneOf (Count o) n d s t = countOf o n s
 laneOf (Fixed o) n d s t = fixedOf o n d s t
 
 -- the widths at which the code works an operation out: a fixed-point multiply has 2n bits on the way, and 64 hold them
+-- up to n = 32
 abbrev pub Fits : Lane → ℕ → Type 0
 Fits (Arith o) n = Unit {0}
 Fits (Bit o) n = Unit {0}

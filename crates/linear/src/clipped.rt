@@ -1,6 +1,6 @@
 // Sums and differences that are held to a range, and averages: each is one sum of views, and no sum is made that has more than 64 bits.
 ghost use mathlib.Core.Path.{_≡_};
-ghost use Prim.Native.Nat.{_+_, _-_, _/_, _^_, _<_, min};
+ghost use Prim.Native.Nat.{_+_, _-_, _/_, _<_};
 ghost use Rattle.isa.specs.Widths.{bits};
 ghost use Rattle.element.specs.Elements.{Elements};
 ghost use Rattle.linear.specs.Sums as sums;

@@ -1,4 +1,4 @@
-// Runs the cases of shared/vectors/ops.txt, one instruction on registers alone each, in the form that
+// Runs the cases of shared/vectors/after-2/ops.txt, one instruction on registers alone each, in the form that
 // tools/ops_cases.py writes: a step of a program of one word. Prints how many leave every register as the case says.
 // After them, the same for corners-ops.txt of that folder and for tools/examples.txt.
 ghost use mathlib.Core.Path.{_≡_};

@@ -51,7 +51,7 @@ zeros-agree = (refl, (refl, (refl, (refl, (refl, (refl, (refl, (refl, (refl, (re
 
 pub multiplies-agree : Agree multiplies
 unfolding writeOf readOf placeOf rowAt signed wrap clamp sat product widened cut eachLane build element
-multiplies-agree = (refl, (refl, (refl, (refl, (refl, (refl, (refl, (refl, (refl, (refl, (refl, tt)))))))))))
+multiplies-agree = (refl, (refl, (refl, (refl, (refl, (refl, (refl, (refl, (refl, (refl, (refl, (refl, tt))))))))))))
 
 pub orders-agree : (a : ℕ) → Agree (orders a)
 unfolding bytesOf turned build element planOf memoryAt generalAt registerAt number address placed missing liesIn

@@ -12,7 +12,7 @@ use Rattle.isa.specs.declared.Arith.{Arith}
 use Rattle.isa.specs.declared.Arith.the-variants as arith
 use Rattle.isa.specs.declared.Dot.the-variants.{DotpS}
 use Rattle.isa.specs.declared.Fixed.{Fixed}
-use Rattle.isa.specs.declared.Fixed.the-variants.{MulQ, MaddQ, MsubQ, MulrQ, MsubrQ}
+use Rattle.isa.specs.declared.Fixed.the-variants.{MulQ, MaddQ, MsubQ, MulrQ, MaddrQ, MsubrQ}
 use Rattle.isa.specs.declared.Greg.{Greg}
 use Rattle.isa.specs.declared.Instr.{Instr}
 use Rattle.isa.specs.declared.Instr.the-variants as instr
@@ -167,6 +167,7 @@ multiplies =
     ∷ ofWords MulQ 0x00000000 0xFFFFFFFF 0x40000000 0xFFFFFFFF
     ∷ ofWords MulrQ 0x00000000 0xFFFFFFFF 0x40000000 0x00000000
     ∷ ofHalves MsubrQ 0x0000 0x4000 0x0001 0x0000
+    ∷ ofHalves MaddrQ 0xFFFF 0x4000 0x0001 0x0000
     ∷ []
 
 -- ---- byte order

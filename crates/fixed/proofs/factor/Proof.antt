@@ -16,6 +16,8 @@ pub factor-spec : {M : Type 1} → statement M
 factor-spec =
     tie.close
     (tie.spec (λ c κs. search needs) (λ c κs. search needs) (λ c. omega (arith, c .before .before .flip .ensures))
-    (λ c. omega (arith, pow-mono {i = bits (c .before .before .before .args .w)} {j = 32} (c .before .before .before .pre .1)))
+    (λ c.
+    let start = c .before .before .before in
+    omega (arith, pow-mono {i = bits (start .args .w)} {j = 32} (start .pre .1)))
     returns
     (λ c. rw (c .if1 .left) (c .before .flip .ensures .is)))

@@ -7,7 +7,7 @@ use Rattle.isa.specs.Widths.{bits}
 use Rattle.element.specs.Views.{flip}
 use Rattle.element.proofs.Widths.{size}
 use Rattle.fixed.specs.Factor.{factor}
-use Rattle.fixed.specs.Fixed.{half}
+use Rattle.fixed.specs.Fixed.{rounding}
 use Rattle.fixed.proofs.Forms.{cut-form}
 use Rattle.fixed.proofs.Room.{wide, factor-most, product-room, quotient-room}
 use Rattle.fixed.proofs.summed.Statement.{statement}
@@ -15,7 +15,7 @@ use Rattle.fixed.proofs.summed.Tie as tie
 
 -- the product with the rounding half
 room : (c : tie.Start) → let a = c .args in
-    flip (bits (a .w)) (a .s) * factor (a .minus) (bits (a .w)) (a .t) + half (a .rounded) (bits (a .w)) < 2 ^ 64
+    flip (bits (a .w)) (a .s) * factor (a .minus) (bits (a .w)) (a .t) + rounding (a .rounded) (bits (a .w)) < 2 ^ 64
 room c =
     let a = c .args in
     product-room (bits (a .w)) (size (a .w)) (c .pre .2) (a .rounded) (a .minus) (c .pre .1 .first) (c .pre .1 .second)
@@ -28,10 +28,10 @@ mul-q c =
           (room (c .before .before .before)),
     )
 
-fits : (c : tie.After-half-of)
-    → c .before .before .before .flip .result * c .before .before .factor .result + c .half-of .result < 2 ^ 64
+fits : (c : tie.After-rounding)
+    → c .before .before .before .flip .result * c .before .before .factor .result + c .rounding .result < 2 ^ 64
 fits c =
-    rw (c .before .before .before .flip .ensures .is, c .before .before .factor .ensures, c .half-of .ensures)
+    rw (c .before .before .before .flip .ensures .is, c .before .before .factor .ensures, c .rounding .ensures)
     (room (c .before .before .before .before))
 
 add-clip : tie.Need-add-clip

@@ -130,6 +130,7 @@ execute-spec =
     (λ c κs. search needs) (λ c. search needs) (λ c κs. search needs) (λ c κs. search needs) address-requires
     (λ c κs. search needs) (λ c. search needs) (λ c κs. search needs) (λ c κs. search needs) (λ c. search needs)
     (λ c κs. search needs) (λ c κs. search needs) (λ c. search needs) (λ c κs. search needs) (λ c κs. search needs)
-    (λ c κs. search needs) scaled-requires (λ c. search needs) (λ c κs. search needs) fixed-requires returns returns-2 returns-3 returns-4 returns-5 returns-6 returns-7
+    (λ c κs. search needs) scaled-requires (λ c. search needs) (λ c κs. search needs)
+    fixed-requires returns returns-2 returns-3 returns-4 returns-5 returns-6 returns-7
     returns-8 returns-9 returns-10 returns-11 returns-12 returns-13 returns-14 returns-15 returns-16 returns-17
     returns-18 returns-19 returns-20 returns-21 returns-22 returns-23)
