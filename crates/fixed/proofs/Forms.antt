@@ -15,7 +15,7 @@ use Rattle.element.proofs.Diff.{Diff, diff-pos, diff-add, diff-minus, diff-mul,
 use Rattle.element.proofs.Readings.{sat-view}
 use Rattle.element.proofs.Views.{flip-below, signed-diff}
 use Rattle.element.proofs.Widths.{Size}
-use Rattle.fixed.specs.Factor.{factor}
+use Rattle.fixed.specs.Parts.{factor}
 use Rattle.fixed.specs.Fixed.{product, widened, summed, rounding, cut}
 
 module _ (n : ℕ) (size : Size n) {s t : ℕ} (e : Elements n s t) where

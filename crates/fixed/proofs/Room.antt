@@ -14,7 +14,7 @@ use Rattle.element.specs.Value.{top}
 use Rattle.element.specs.Views.{flip}
 use Rattle.element.proofs.Views.{flip-below}
 use Rattle.element.proofs.Widths.{Size}
-use Rattle.fixed.specs.Factor.{factor}
+use Rattle.fixed.specs.Parts.{factor}
 use Rattle.fixed.specs.Fixed.{rounding}
 
 -- every width has a bit below its top bit, and rounding adds that bit's weight

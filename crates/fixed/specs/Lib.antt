@@ -1,4 +1,4 @@
 -- The fixed-point multiplies of Table 4.7 on one element.
 pub mod Fixed
-pub mod Factor
+pub mod Parts
 pub mod Stands

@@ -1,12 +1,13 @@
 // One element at a width: the fixed-point multiplies of Table 4.7. All six are one product and one sum of views, over
-// the width, the rounding and the sign of the product. In formats up to W they have at most 64 bits.
+// the width, the rounding, the sign of the product and the old element. In formats up to W these have at most 64 bits.
+// The sum has one caller, and what tells the six apart is worked out before it: so the compiler keeps it in one piece.
 ghost use mathlib.Core.Path.{_≡_};
 ghost use Prim.Native.Nat.{_^_, _<_, _≤_};
 ghost use Rattle.isa.specs.Widths.{bits};
 ghost use Rattle.element.specs.Elements.{Elements};
 ghost use Rattle.fixed.specs.Fixed as fixeds;
 ghost use Rattle.fixed.specs.Fixed.{fixedOf};
-ghost use Rattle.fixed.specs.Factor as factors;
+ghost use Rattle.fixed.specs.Parts as parts;
 use element::flip;
 use element::half;
 use element::ones;
@@ -17,7 +18,7 @@ use linear::clip::clip;
 // The view of t, or of -t: 2^(n - 1) more than the number.
 fn factor(w: Width, minus: bool, t: u64) -> u64
     requires { ⌜ (t < 2 ^ bits w) × (bits w ≤ 32) ⌝ }
-    ensures { λ r. ⌜ r ≡ factors.factor minus (bits w) t ⌝ }
+    ensures { λ r. ⌜ r ≡ parts.factor minus (bits w) t ⌝ }
 {
     let v = flip(w, t);
     if minus { ones(w) - v + 1 } else { v }
@@ -44,17 +45,52 @@ fn summed(w: Width, rounded: bool, minus: bool, d: u64, s: u64, t: u64) -> u64
     flip(w, clip(w, flip(w, d), q + one, a + b))
 }
 
+// Whether op rounds.
+fn rounds(op: Fixed) -> bool
+    ensures { λ r. ⌜ r ≡ parts.rounds op ⌝ }
+{
+    match op {
+        Fixed::MulQ => false,
+        Fixed::MaddQ => false,
+        Fixed::MsubQ => false,
+        Fixed::MulrQ => true,
+        Fixed::MaddrQ => true,
+        Fixed::MsubrQ => true,
+    }
+}
+
+// Whether op subtracts the product.
+fn subtracts(op: Fixed) -> bool
+    ensures { λ r. ⌜ r ≡ parts.subtracts op ⌝ }
+{
+    match op {
+        Fixed::MulQ => false,
+        Fixed::MaddQ => false,
+        Fixed::MsubQ => true,
+        Fixed::MulrQ => false,
+        Fixed::MaddrQ => false,
+        Fixed::MsubrQ => true,
+    }
+}
+
+// The old element: none for a product alone.
+fn old(op: Fixed, d: u64) -> u64
+    ensures { λ r. ⌜ r ≡ parts.old op d ⌝ }
+{
+    match op {
+        Fixed::MulQ => 0,
+        Fixed::MaddQ => d,
+        Fixed::MsubQ => d,
+        Fixed::MulrQ => 0,
+        Fixed::MaddrQ => d,
+        Fixed::MsubrQ => d,
+    }
+}
+
 // The element that op makes of the old element d and the elements s and t.
 pub fn fixed(op: Fixed, w: Width, d: u64, s: u64, t: u64) -> u64
     requires { ⌜ (d < 2 ^ bits w) × Elements (bits w) s t × (bits w ≤ 32) ⌝ }
     ensures { λ r. ⌜ r ≡ fixedOf op (bits w) d s t ⌝ }
 {
-    match op {
-        Fixed::MulQ => summed(w, false, false, 0, s, t),
-        Fixed::MaddQ => summed(w, false, false, d, s, t),
-        Fixed::MsubQ => summed(w, false, true, d, s, t),
-        Fixed::MulrQ => summed(w, true, false, 0, s, t),
-        Fixed::MaddrQ => summed(w, true, false, d, s, t),
-        Fixed::MsubrQ => summed(w, true, true, d, s, t),
-    }
+    summed(w, rounds(op), subtracts(op), old(op, d), s, t)
 }

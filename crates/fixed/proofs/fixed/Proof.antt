@@ -1,25 +1,53 @@
--- `fixed::fixed` meets its contract. Each arm hands on what the sum ensures; a product alone is added to 0. Assumes
--- nothing.
+-- `fixed::fixed` meets its contract: each of the six is the sum with its parts. Assumes nothing.
 use borrow.Author.Needs.{needs}
+use mathlib.Core.Path.{_≡_, refl}
 use mathlib.Core.Bool.{true, false}
+use Prim.Native.Nat.{ℕ, _^_, _<_}
 use lib.Pow.{pow-pos}
-use Rattle.element.proofs.Widths.{size}
+use Rattle.isa.specs.declared.Fixed.{Fixed}
+use Rattle.isa.specs.declared.Fixed.the-variants.{MulQ, MaddQ, MsubQ, MulrQ, MaddrQ, MsubrQ}
+use Rattle.isa.specs.Widths.{bits}
+use Rattle.element.specs.Elements.{Elements}
+use Rattle.element.proofs.Widths.{Size, size}
+use Rattle.fixed.specs.Parts.{rounds, subtracts, old}
+use Rattle.fixed.specs.Fixed.{cut, summed, fixedOf}
 use Rattle.fixed.proofs.Forms.{alone}
 use Rattle.fixed.proofs.fixed.Statement.{statement}
 use Rattle.fixed.proofs.fixed.Tie as tie
 
+parts : (n : ℕ) → Size n → {s t : ℕ} → Elements n s t → (d : ℕ) (o : Fixed)
+    → cut (rounds o) n (summed (subtracts o) n (old o d) s t) ≡ fixedOf o n d s t
+parts n size e d MulQ = alone n size e false refl
+parts n size e d MaddQ = refl
+parts n size e d MsubQ = refl
+parts n size e d MulrQ = alone n size e true refl
+parts n size e d MaddrQ = refl
+parts n size e d MsubrQ = refl
+
+small : (n d : ℕ) → d < 2 ^ n → (o : Fixed) → old o d < 2 ^ n
+small n d h MulQ = pow-pos n
+small n d h MaddQ = h
+small n d h MsubQ = h
+small n d h MulrQ = pow-pos n
+small n d h MaddrQ = h
+small n d h MsubrQ = h
+
+requires : tie.Need-summed-requires
+requires c κs =
+    let start = c .before .before .before in
+    (rw (c .old .ensures) (small _ _ (start .pre .0) (start .args .op)), start .pre .1, start .pre .2)
+
+returns : tie.Need-returns
+returns c =
+    let start = c .before .before .before .before in
+    let a = start .args in
+    rw (
+      ← parts (bits (a .w)) (size (a .w)) (start .pre .1) (a .d) (a .op),
+      ← c .before .before .before .rounds .ensures,
+      ← c .before .before .subtracts .ensures,
+      ← c .before .old .ensures,
+    )
+    (c .summed .ensures)
+
 pub fixed-spec : {M : Type 1} → statement M
-fixed-spec =
-    tie.close
-    (tie.spec (λ c. search needs) (λ c κs. (pow-pos _, c .before .before .pre .1, c .before .before .pre .2))
-    (λ c. search needs) (λ c κs. search needs) (λ c. search needs) (λ c κs. search needs) (λ c. search needs)
-    (λ c κs. (pow-pos _, c .before .before .pre .1, c .before .before .pre .2)) (λ c. search needs)
-    (λ c κs. search needs) (λ c. search needs) (λ c κs. search needs)
-    (λ c. let start = c .before .before .before in
-    rw (c .before .enum-told .given .1) (alone _ (size (start .args .w)) (start .pre .1) false (c .summed .ensures)))
-    (λ c. rw (c .before .enum-told2 .given .1) (c .summed2 .ensures))
-    (λ c. rw (c .before .enum-told3 .given .1) (c .summed3 .ensures))
-    (λ c. let start = c .before .before .before in
-    rw (c .before .enum-told4 .given .1) (alone _ (size (start .args .w)) (start .pre .1) true (c .summed4 .ensures)))
-    (λ c. rw (c .before .enum-told5 .given .1) (c .summed5 .ensures))
-    (λ c. rw (c .before .enum-told6 .given .1) (c .summed6 .ensures)))
+fixed-spec = tie.close (tie.spec (λ c κs. search needs) (λ c κs. search needs) (λ c κs. search needs) requires returns)

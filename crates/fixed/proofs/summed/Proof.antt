@@ -6,7 +6,7 @@ use lib.Pow.{pow-mono}
 use Rattle.isa.specs.Widths.{bits}
 use Rattle.element.specs.Views.{flip}
 use Rattle.element.proofs.Widths.{size}
-use Rattle.fixed.specs.Factor.{factor}
+use Rattle.fixed.specs.Parts.{factor}
 use Rattle.fixed.specs.Fixed.{rounding}
 use Rattle.fixed.proofs.Forms.{cut-form}
 use Rattle.fixed.proofs.Room.{wide, factor-most, product-room, quotient-room}
