@@ -101,7 +101,8 @@ module _ (n : ℕ) (size : Size n) {s t : ℕ} (e : Elements n s t) (h : ℕ) (m
         near = λ not. near _ (stood .least (λ c. not (rw same c))) (stood .most (λ c. not (rw same c)));
       }
 
--- a number whose cut x is: at most the number, and less than 1 below it; with the half added, within the half of it
+-- x, 2^(n − 1) times the cut of p: at most p, and less than 2^(n − 1) below it; with the half added, within the half of
+-- it
 near-cut : (n : ℕ) (p x : ℤ) → x ≤ℤ (p +ℤ pos 0) → (p +ℤ pos 0) <ℤ (x +ℤ one n) → Near mul-q n x p
 near-cut n p x l m =
     over-multiple 1 (omega arith) x (λ a b g. over-multiple 1 (omega arith) p (λ c d k.

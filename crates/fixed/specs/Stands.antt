@@ -12,8 +12,8 @@ use Rattle.fixed.specs.Fixed.{fixedOf}
 abbrev pub one : ℕ → ℤ
 one n = pos (2 ^ (n - 1))
 
--- the exact numbers, 2^(n − 1) times those of elements; u is the number of 1, and d, s and t are the signed numbers of
--- the elements
+-- the exact numbers, at the scale of a product, 2^(n − 1) times that of elements; u is the number of 1, and d, s and t
+-- are the signed numbers of the elements
 abbrev pub exact : Fixed → ℤ → ℤ → ℤ → ℤ → ℤ
 exact MulQ u d s t = s *ℤ t
 exact MaddQ u d s t = d *ℤ u +ℤ s *ℤ t
@@ -22,7 +22,7 @@ exact MulrQ u d s t = s *ℤ t
 exact MaddrQ u d s t = d *ℤ u +ℤ s *ℤ t
 exact MsubrQ u d s t = d *ℤ u -ℤ s *ℤ t
 
--- what rounding adds: half of 1, at that scale
+-- what rounding adds: half of 2^(n − 1), the step of an element at that scale
 abbrev pub added : Fixed → ℕ → ℤ
 added MulQ n = pos 0
 added MaddQ n = pos 0
@@ -34,7 +34,7 @@ added MsubrQ n = pos (2 ^ (n - 2))
 abbrev pub uncut : Fixed → ℕ → ℕ → ℕ → ℕ → ℤ
 uncut o n d s t = exact o (one n) (signed n d) (signed n s) (signed n t) +ℤ added o n
 
--- z, 2^(n − 1) times a number of elements, is 1 or more, or less than −1
+-- z, at that scale, is 1 or more, or less than −1
 pub data Clamped (n : ℕ) (z : ℤ) : Type 0 where
   over : (one n *ℤ one n) ≤ℤ z → Clamped n z
   under : z <ℤ (negℤ (one n *ℤ one n)) → Clamped n z
