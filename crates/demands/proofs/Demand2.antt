@@ -10,23 +10,23 @@ use lib.Pow.{pow-pos}
 use Rattle.isa.specs.declared.Instr.{Instr}
 use Rattle.isa.specs.declared.Read.{Read}
 use Rattle.isa.specs.declared.Read.the-variants as read
-use Rattle.memory.specs.Value.{value}
-use Rattle.plan.specs.declared.Plan.{Plan}
-use Rattle.plan.specs.declared.Plan.the-variants as plan
 use Rattle.plan.specs.Plan.{planOf}
 use Rattle.plan.specs.There.{There}
 use Rattle.plan.proofs.PlanLaws.{planned-there}
 use Rattle.reading.specs.Reading.{readOf}
 use Rattle.state.specs.declared.fetch.Fetched.{Fetched}
 use Rattle.state.specs.declared.fetch.Fetched.the-variants.{Word, NoWord}
+use Rattle.state.specs.declared.setup.Setup.{Setup}
+use Rattle.state.specs.declared.setup.Setup.the-variants.{Accepted, Refused}
 use Rattle.state.specs.Fetch.{fetched}
 use Rattle.state.specs.Machine.{Env, Machine}
+use Rattle.state.specs.Setup.{refusal}
 use Rattle.words.specs.Formed.{Formed}
 use Rattle.words.proofs.Answers.{read-formed}
+use Rattle.machine.specs.declared.step.Answer.the-variants.{Ran}
 use Rattle.machine.specs.declared.step.Outcome.the-variants.{Finished}
-use Rattle.machine.specs.Effect.{applied}
-use Rattle.machine.specs.Step.{stepOf, attempted, decided}
-use Rattle.demands.specs.Demand2.{Meant, FinishedStep, OneChange, none, vector, general, store, ChangesOne}
+use Rattle.machine.specs.Step.{stepOf, attempted, decided, whole, wholeStep}
+use Rattle.demands.specs.Demand2.{Meant, FinishedStep}
 use Rattle.demands.proofs.ReadLow.{read-low}
 
 pub finished-step : FinishedStep
@@ -52,16 +52,15 @@ pub meant-there : (p : List ℕ) (e : Env) (m : Machine) (s : Meant p e m)
     → There (e .board .work) (length (m .work)) (planOf e m (s .instruction))
 meant-there p e m s = planned-there e m (s .instruction) (formed (s .word) (s .instruction) (s .reads))
 
-applied-one : (base : ℕ) (q : Plan) (m : Machine) → There base (length (m .work)) q → OneChange base m (applied base q m)
-applied-one base (plan.Stop s) m h = none refl refl refl
-applied-one base plan.Nothing m h = none refl refl refl
-applied-one base (plan.Vector r v) m h = vector r (value v) h refl refl refl
-applied-one base (plan.General r x) m h = general r x h refl refl refl
-applied-one base (plan.Store a v) m h = store a (value v) (h .0) (h .1) refl refl refl
-applied-one base (plan.Csr x) m h = none refl refl refl
-applied-one base (plan.Branch k) m h = none refl refl refl
+-- a step with its set-up limits that is finished is of an accepted set-up, and is the step of the definition
+pub record Ends (p : List ℕ) (e : Env) (m : Machine) : Type 0 where
+  pub ok : refusal p e m ≡ Accepted
+  pub done : stepOf p e m .outcome ≡ Finished
+  pub after : wholeStep p e m .after ≡ stepOf p e m .after
 
-pub changes-one : ChangesOne
-changes-one p e m done =
-    let s = finished-step p e m done in
-    rw (s .after) (applied-one (e .board .work) (planOf e m (s .instruction)) m (meant-there p e m s))
+pub ends : (p : List ℕ) (e : Env) (m : Machine) → wholeStep p e m .answer ≡ Ran Finished → Ends p e m
+ends p e m f = go (refusal p e m) refl f
+  where
+    go : (s : Setup) → refusal p e m ≡ s → whole s (stepOf p e m) m .answer ≡ Ran Finished → Ends p e m
+    go Accepted q h = record { ok = q; done = cc; after = rw q }
+    go (Refused r) q h = let z : _≡_ {A = ℕ} 0 1 = cc in absurd (omega arith)

@@ -3,15 +3,16 @@
 use mathlib.Core.Path.{_≡_, refl, sym, ap, _∙_}
 use mathlib.Core.Bool.{Bool, true, false}
 use mathlib.Core.List.{List}
-use Prim.Native.Nat.{ℕ, _/_, _^_, _<_}
+use Prim.Native.Nat.{ℕ, _+_, _*_, _/_, _^_, _<_}
 use native.Mathlib.Nat.{mod-eq-of-lt}
 use native.Mathlib.Omega.{arith}
+use lib.ListN.{getD}
 use Rattle.isa.specs.declared.Instr.{Instr}
 use Rattle.isa.specs.declared.Read.the-variants as read
 use Rattle.isa.specs.declared.Vreg.{Vreg}
 use Rattle.isa.specs.declared.Width.{Width}
 use Rattle.isa.specs.Widths.{bits}
-use Rattle.memory.specs.File.{registerAt}
+use Rattle.memory.specs.File.{registerAt, withRegister}
 use Rattle.memory.specs.Value.{value, register}
 use Rattle.memory.proofs.Files.{withRegister-same}
 use Rattle.memory.proofs.Values.{value-exact}
@@ -35,6 +36,7 @@ use Rattle.machine.specs.Step.{Result, stepOf, concluded, outcomeOf}
 use Rattle.demands.specs.Demand2.{Meant}
 use Rattle.demands.specs.Lanes.{laneAt}
 use Rattle.demands.proofs.Demand2.{meant-there}
+use Rattle.demands.proofs.Written.{register-byte}
 
 -- a finished step was not switched off
 pub by-switch : (q : Plan) (on : Bool) → outcomeOf (unless (switchedEarly on) q) ≡ Finished
@@ -78,6 +80,14 @@ module _ (instruction : Instr) (wd : Vreg) (made : ℕ) (p : List ℕ) (e : Env)
       rw (meant .after, planned)
       (withRegister-same (m .vec) wd (value (register made)) (accepted p e m ok .vectors) small
       ∙ rw (value-exact h) (mod-eq-of-lt h))
+
+  pub byte-after : made < 2 ^ 128 → (b : ℕ) → b < 16
+      → getD (stepOf p e m .after .vec) (16 * wd .0 + b) 0 ≡ element 8 made b
+  unfolding withRegister
+  byte-after h b k =
+      let small : wd .0 < 32 = rw planned at (meant-there p e m meant) in
+      rw (meant .after, planned)
+      (register-byte (m .vec) (16 * wd .0) made (omega (arith, accepted p e m ok .vectors)) h b k)
 
   pub lane-after : (l : Lane) (df : Width) (d s t : ℕ) → made ≡ eachLane l (bits df) d s t → (i : ℕ) → i < 128 / bits df
       → laneAt df (stepOf p e m .after .vec) wd i

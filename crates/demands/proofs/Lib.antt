@@ -3,14 +3,20 @@ pub mod Answers
 pub mod Before
 pub mod ByZero
 pub mod Carried
+pub mod Changes
 pub mod CsrBits
 pub mod Demand1
 pub mod Demand2
 pub mod Demand3
+pub mod Destination
+pub mod Echoes
+pub mod Elements
 pub mod Fixed
 pub mod GoesOn
 pub mod Kept
+pub mod LaneTables
 pub mod Lanes
+pub mod LanesApart
 pub mod Limits
 pub mod Little
 pub mod Missing
@@ -22,3 +28,4 @@ pub mod Reflects
 pub mod Rows
 pub mod TrapBits
 pub mod Why
+pub mod Written

@@ -4,7 +4,6 @@ use mathlib.Core.Path.{_≡_, refl, sym, ap, _∙_}
 use mathlib.Core.List.{List}
 use mathlib.Core.Logic.{_⊎_, inl, inr, ⊎-elim}
 use Prim.Native.Nat.{ℕ, _+_, _-_, _*_, _^_, _≤_, _<_}
-use native.Mathlib.Decide.{decLt}
 use native.Mathlib.Nat.{mod-eq-of-lt}
 use native.Mathlib.Omega.{arith}
 use lib.Arith.{digits-div, digits-mod}
@@ -23,13 +22,12 @@ use Rattle.memory.specs.Value.{value, register}
 use Rattle.memory.proofs.Files.{registerAt-below}
 use Rattle.memory.proofs.Numbers.{length-bytesOf, part-bytes}
 use Rattle.memory.proofs.Parts.{getD-part, length-replaced, part-replaced}
-use Rattle.memory.proofs.Parts.{replaced-before, replaced-inside, replaced-after}
 use Rattle.memory.proofs.Values.{value-exact}
 use Rattle.ops.specs.Meaning.{memoryAt}
 use Rattle.order.specs.declared.Order.{Order}
 use Rattle.order.specs.declared.Order.the-variants.{Little, Big}
 use Rattle.order.specs.Order.{place, turned, bytesIn, registerIn}
-use Rattle.order.proofs.ByteLaws.{byte-of, byte-in}
+use Rattle.order.proofs.ByteLaws.{byte-in}
 use Rattle.order.proofs.OrderLaws.{some, place-within, place-back, turned-below, element-turned, stands-back}
 use Rattle.vectors.specs.Register.{element}
 use Rattle.plan.specs.declared.Plan.{Plan}
@@ -48,12 +46,14 @@ use Rattle.machine.specs.declared.step.Outcome.the-variants.{Finished}
 use Rattle.machine.specs.Step.{Result, stepOf, outcomeOf, concluded}
 use Rattle.demands.specs.AtCounter.{elementBytes}
 use Rattle.demands.specs.Tables.{Not, Inside}
-use Rattle.demands.specs.Order.{offset, IsByte, byteOf, ByteAt, Access, Done, firstOf}
+use Rattle.demands.specs.Destination.{Access, firstOf}
+use Rattle.demands.specs.Order.{offset, IsByte, byteOf, ByteAt, Done}
 use Rattle.demands.specs.Order.{Loaded, LoadsBytes, StoresBytes, GivesBack}
 use Rattle.demands.proofs.Demand2.{formed}
 use Rattle.demands.proofs.Kept.{stays-accepted}
 use Rattle.demands.proofs.Lanes.{by-switch}
 use Rattle.demands.proofs.Reasons.{step-concludes, same-address}
+use Rattle.demands.proofs.Written.{changed-length, changed-others, register-byte}
 
 -- ---- places
 
@@ -89,36 +89,6 @@ module _ (o : Order) (df : Width) where
 
 -- ---- registers and windows
 
--- sixteen bytes that became those of x, and the others
-module _ (d : List ℕ) (at x : ℕ) (fits : at + 16 ≤ length d) (below : x < 2 ^ 128) where
-  abbrev put : List ℕ
-  put = bytesOf 16 (value (register x))
-
-  abbrev changed : List ℕ
-  changed = replaced d at put
-
-  room : at + length put ≤ length d
-  room = omega (arith, length-bytesOf 16 (value (register x)))
-
-  changed-length : length changed ≡ length d
-  changed-length = length-replaced d at put room
-
-  changed-byte : (b : ℕ) → b < 16 → getD changed (at + b) 0 ≡ element 8 x b
-  changed-byte b h =
-      let k : at + b - at ≡ b = omega arith in
-      replaced-inside d at put room (at + b) (omega arith) (omega (arith, length-bytesOf 16 (value (register x))))
-      ∙ ap (λ k. getD put k 0) k
-      ∙ byte-of 16 (value (register x)) b h
-      ∙ ap (λ y. element 8 y b) (value-exact below)
-
-  changed-others : (k : ℕ) → Not ((at ≤ k) × (k < at + 16)) → getD changed k 0 ≡ getD d k 0
-  changed-others k out = go (decLt k at) (decLt k (at + 16))
-    where
-      go : Dec (k < at) → Dec (k < at + 16) → getD changed k 0 ≡ getD d k 0
-      go (yes l) r = replaced-before d at put room k l
-      go (no l) (yes r) = absurd (out (omega arith, r))
-      go (no l) (no r) = replaced-after d at put room k (omega (arith, length-bytesOf 16 (value (register x))))
-
 module _ (o : Order) (df : Width) (wd : Vreg) (a base : ℕ) where
   abbrev size : ℕ
   size = bytes df
@@ -138,7 +108,7 @@ module _ (o : Order) (df : Width) (wd : Vreg) (a base : ℕ) where
       let there : place o size b < 16 = within o df b (h .0) in
       let at : a + place o size b - base ≡ a - base + place o size b = omega arith in
       let same =
-      changed-byte v (16 * wd .0) (registerIn o size s) (omega arith) (turned-below o size (number s)) b (h .0)
+      register-byte v (16 * wd .0) (registerIn o size s) (omega arith) (turned-below o size (number s)) b (h .0)
       ∙ element-turned o size (number s) b (h .0)
       ∙ byte-in s (part-bytes w (a - base) 16 areBytes) (place o size b)
       ∙ getD-part w (a - base) 16 (place o size b) there
@@ -160,7 +130,7 @@ module _ (o : Order) (df : Width) (wd : Vreg) (a base : ℕ) where
     below = turned-below o size (registerAt v wd)
 
     long : length after ≡ length w
-    long = changed-length w (a - base) turnedOne fit below
+    long = changed-length w (a - base) 16 (value (register turnedOne)) fit
 
     stored-byte : AreBytes v → (i j : ℕ) → IsByte size i j
         → ByteAt base after (a + offset o size i j) (byteOf v wd size i j)
@@ -171,7 +141,7 @@ module _ (o : Order) (df : Width) (wd : Vreg) (a base : ℕ) where
         let there : place o size b < 16 = within o df b (h .0) in
         let at : a + place o size b - base ≡ a - base + place o size b = omega arith in
         let same =
-        changed-byte w (a - base) turnedOne fit below (place o size b) there
+        register-byte w (a - base) turnedOne fit below (place o size b) there
         ∙ element-turned o size (number s) (place o size b) there
         ∙ ap (element 8 (number s)) (place-back size (pos o df) o b)
         ∙ byte-in s (part-bytes v (16 * wd .0) 16 areBytes) b
@@ -183,15 +153,15 @@ module _ (o : Order) (df : Width) (wd : Vreg) (a base : ℕ) where
     stored-others y b out h =
         let away : Not ((a - base ≤ y - base) × (y - base < a - base + 16)) =
         λ r. out (omega (arith, r .0, r .1, h .0 .0), omega (arith, r .0, r .1, h .0 .0)) in
-        (rw long (h .0), changed-others w (a - base) turnedOne fit below (y - base) away ∙ h .1)
+        (rw long (h .0), changed-others w (a - base) 16 (value (register turnedOne)) fit (y - base) away ∙ h .1)
 
 -- ---- steps
 
 -- the address, by the machine's own definition, and where the windows place it
-abbrev start : Access → Machine → ℕ
+abbrev pub start : Access → Machine → ℕ
 start x m = address (x .df) (x .s10) (generalAt (m .gen) (x .rs))
 
-abbrev spot : Access → Env → Machine → Spot
+abbrev pub spot : Access → Env → Machine → Spot
 spot x e m = spotOf (e .board) (length (e .table)) (length (m .work)) (start x m)
 
 module _ (o : Memory) (x : Access) (p : List ℕ) (e : Env) (m : Machine) (ok : refusal p e m ≡ Accepted)
@@ -203,7 +173,7 @@ module _ (o : Memory) (x : Access) (p : List ℕ) (e : Env) (m : Machine) (ok : 
   instruction = instr.Memory (d .op) (x .df) (x .wd) (x .s10) (x .rs)
 
   first-is : firstOf x m ≡ start x m
-  first-is = same-address e m (accepted p e m ok) (d .op) (x .df) (x .wd) (x .s10) (x .rs)
+  first-is = same-address m (x .df) (x .s10) (x .rs)
 
   step-is : stepOf p e m ≡ concluded (e .board .work) (planOf e m instruction) m
   step-is = step-concludes p e m (d .reads)
@@ -265,8 +235,8 @@ module _ (x : Access) (p : List ℕ) (e : Env) (m : Machine) (ok : refusal p e m
             (rw (same-bytes (x .df)) at h));
         others =
             let s : List ℕ = part w (start x m - base) 16 in
-            changed-others (m .vec) (16 * x .wd .0) (registerIn o (bytes (x .df)) s) (omega arith)
-            (turned-below o (bytes (x .df)) (number s));
+            changed-others (m .vec) (16 * x .wd .0) 16 (value (register (registerIn o (bytes (x .df)) s)))
+            (omega arith);
       })
 
 pub loads-bytes : LoadsBytes
@@ -357,6 +327,6 @@ gives-back x y p e m ok areBytes d g same at b h =
     let long₁ = accepted p e m₁ ok₁ .vectors in
     let small₁ = register-small Ld y p e m₁ ok₁ g in
     ap (λ (r : Result). getD (r .after .vec) (16 * y .wd .0 + b) 0) ends
-    ∙ changed-byte (m₁ .vec) (16 * y .wd .0) v (omega (arith, long₁, small₁)) below b h
+    ∙ register-byte (m₁ .vec) (16 * y .wd .0) v (omega (arith, long₁, small₁)) below b h
     ∙ byte-in held (part-bytes (m .vec) (16 * x .wd .0) 16 areBytes) b
     ∙ getD-part (m .vec) (16 * x .wd .0) 16 b h

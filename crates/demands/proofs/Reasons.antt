@@ -45,7 +45,7 @@ use Rattle.machine.specs.Numbers.{outcomeNumber}
 use Rattle.machine.specs.Step.{Result, stepOf, outcomeOf, concluded, attempted, decided}
 use Rattle.machine.specs.Why.{wordHere}
 use Rattle.demands.specs.AtCounter.{IsBranch, format, whole, IgnoresSwitch, scaled, general, elementBytes}
-use Rattle.demands.specs.AtCounter.{addressFrom, Accesses, at, SetsCsr, to, InTable, InWork, Arms}
+use Rattle.demands.specs.AtCounter.{addressFrom, firstAddress, Accesses, at, SetsCsr, to, InTable, InWork, Arms}
 use Rattle.demands.specs.AtCounter.{StandsAt, ReadsAs, IsWord, Does}
 use Rattle.demands.specs.Reasons.{readStops, stops, FirstReason}
 use Rattle.demands.specs.Tables.{Row, row, First, none, given, passed, Not, Some, little}
@@ -121,6 +121,13 @@ pub general-at : (m : Machine) (r : Greg) → general m r ≡ generalAt (m .gen)
 unfolding generalAt
 general-at m r = little-number (m .gen) (8 * r .0) 8
 
+-- the address, by either definition
+pub same-address : (m : Machine) (df : Width) (offset : ℕ) (rs : Greg)
+    → firstAddress m df offset rs ≡ address df offset (generalAt (m .gen) rs)
+same-address m df offset rs =
+    ap (λ x. addressFrom x offset (elementBytes df)) (general-at m rs)
+    ∙ sym (address-from df offset (generalAt (m .gen) rs))
+
 module _ (e : Env) (m : Machine) (sized : Sized e m) where
   -- the facts of the rows
   abbrev Nowhere? : Memory → ℕ → Type 0
@@ -149,21 +156,16 @@ module _ (e : Env) (m : Machine) (sized : Sized e m) where
     abbrev access : Instr
     access = instr.Memory k df wd offset rs
 
-    -- the address, by either definition
-    pub same-address : addressFrom (general m rs) offset (elementBytes df) ≡ a
-    same-address = ap (λ x. addressFrom x offset (elementBytes df)) (general-at m rs)
-        ∙ sym (address-from df offset (generalAt (m .gen) rs))
-
     pub below : a < 2 ^ 64
     unfolding address
     below = wrap-below 64 _
 
     module _ (f : Memory → ℕ → Type 0) where
       pub accesses : f (memoryAt (k .0)) a → Accesses m f access
-      accesses h = at {k = k} {df = df} {offset = offset} {rs = rs} (rw same-address h)
+      accesses h = at {k = k} {df = df} {offset = offset} {rs = rs} (rw (same-address m df offset rs) h)
 
       pub accessing : Accesses m f access → f (memoryAt (k .0)) a
-      accessing (at h) = rw same-address at h
+      accessing (at h) = rw (same-address m df offset rs) at h
 
     no-csr : Not (SetsCsr m Arms access)
     no-csr h = elim h [ ]
@@ -332,6 +334,29 @@ module _ (p : List ℕ) (e : Env) (m : Machine) where
       go : (b : Bool) → Reflects b (Some (StandsAt p e m)) → IsWord p e m (wordHere (cond b (Word w) NoWord))
       go true x = record { number = s .number; holds = (s .holds, sym (spelt s)) }
       go false x = absurd (x .no refl s)
+
+  -- a word is fetched exactly where it stands
+  pub word-fetched : {v : ℕ} → IsWord p e m v → fetched p (e .board .program) (m .ctl .pc) ≡ Word v
+  unfolding fetched
+  word-fetched {v} s = go stands? stands
+    where
+      at : Some (StandsAt p e m)
+      at = record { number = s .number; holds = s .holds .0 }
+
+      go : (b : Bool) → Reflects b (Some (StandsAt p e m)) → cond b (Word w) NoWord ≡ Word v
+      go true x = ap Word (sym (s .holds .1 ∙ spelt at))
+      go false x = absurd (x .no refl at)
+
+  pub fetched-word : {v : ℕ} → fetched p (e .board .program) (m .ctl .pc) ≡ Word v → IsWord p e m v
+  unfolding fetched
+  fetched-word {v} = go stands? stands
+    where
+      go : (b : Bool) → Reflects b (Some (StandsAt p e m)) → cond b (Word w) NoWord ≡ Word v → IsWord p e m v
+      go true x q =
+          let s = x .yes refl in
+          let is : v ≡ w = cc in
+          record { number = s .number; holds = (s .holds, is ∙ sym (spelt s)) }
+      go false x q = differ (cc)
 
   -- the instruction there is what the step does, and decides how it ends
   pub step-concludes : {i : Instr} → ReadsAs p e m (read.Instr i)

@@ -49,10 +49,14 @@ elementBytes D = 8
 abbrev pub addressFrom : ℕ → ℕ → ℕ → ℕ
 addressFrom x field n = cond (ltb field 512) (x + field * n) (x + field * n + 2 ^ 64 - 1024 * n) % 2 ^ 64
 
--- a load or a store of which f holds, with the address of its first byte
+-- the address of the first byte of a load or a store
+abbrev pub firstAddress : Machine → Width → ℕ → Greg → ℕ
+firstAddress m df field rs = addressFrom (general m rs) field (elementBytes df)
+
+-- a load or a store of which f holds, with that address
 pub data Accesses (m : Machine) (f : Memory → ℕ → Type 0) : Instr → Type 0 where
   at : {k : Op} {df : Width} {wd : Vreg} {offset : ℕ} {rs : Greg}
-      → f (memoryAt (k .0)) (addressFrom (general m rs) offset (elementBytes df))
+      → f (memoryAt (k .0)) (firstAddress m df offset rs)
       → Accesses m f (instr.Memory k df wd offset rs)
 
 -- a CTCMSA to MSACSR, control register 1, of a value of which f holds

@@ -1,23 +1,18 @@
--- Demand 2. Where a step is finished, a word stands at the program counter, it reads as an instruction whose plan is no stop, and the machine
--- after the step is that plan done to the machine before. A finished step changes at most one register, or sixteen bytes of the work window, and
--- the control block.
+-- Demand 2. Where a step is finished, a word stands at the program counter, it reads as an instruction whose plan is no
+-- stop, and the machine after the step is that plan done to the machine before. What no step changes is said in
+-- `Changes`.
 use mathlib.Core.Path.{_≡_}
 use mathlib.Core.List.{List}
-use Prim.Native.Nat.{ℕ, _+_, _-_, _≤_, _<_}
-use lib.ListN.{length}
-use Rattle.isa.specs.declared.Greg.{Greg}
-use Rattle.isa.specs.declared.Vreg.{Vreg}
+use Prim.Native.Nat.{ℕ}
 use Rattle.isa.specs.declared.Instr.{Instr}
 use Rattle.isa.specs.declared.Read.the-variants as read
-use Rattle.memory.specs.Bytes.{replaced, bytesOf}
-use Rattle.memory.specs.File.{withRegister}
 use Rattle.reading.specs.Reading.{readOf}
 use Rattle.plan.specs.Plan.{planOf}
 use Rattle.state.specs.declared.fetch.Fetched.the-variants.{Word}
 use Rattle.state.specs.Fetch.{fetched}
 use Rattle.state.specs.Machine.{Env, Machine}
 use Rattle.machine.specs.declared.step.Outcome.the-variants.{Finished}
-use Rattle.machine.specs.Effect.{applied, withGeneral}
+use Rattle.machine.specs.Effect.{applied}
 use Rattle.machine.specs.Step.{stepOf, outcomeOf}
 
 pub record Meant (p : List ℕ) (e : Env) (m : Machine) : Type 0 where
@@ -30,16 +25,3 @@ pub record Meant (p : List ℕ) (e : Env) (m : Machine) : Type 0 where
 
 abbrev pub FinishedStep : Type 0
 FinishedStep = (p : List ℕ) (e : Env) (m : Machine) → stepOf p e m .outcome ≡ Finished → Meant p e m
-
--- what may differ between two machines, beside the control block; work windows begin at base
-pub data OneChange (base : ℕ) (m m′ : Machine) : Type 0 where
-  none : m′ .vec ≡ m .vec → m′ .gen ≡ m .gen → m′ .work ≡ m .work → OneChange base m m′
-  vector : (r : Vreg) (x : ℕ) → r .0 < 32 → m′ .vec ≡ withRegister (m .vec) r x → m′ .gen ≡ m .gen → m′ .work ≡ m .work → OneChange base m m′
-  general : (r : Greg) (x : ℕ) → r .0 < 32 → m′ .vec ≡ m .vec → m′ .gen ≡ withGeneral (m .gen) r x → m′ .work ≡ m .work → OneChange base m m′
-  store : (a x : ℕ) → base ≤ a → a + 16 ≤ base + length (m .work)
-      → m′ .vec ≡ m .vec → m′ .gen ≡ m .gen → m′ .work ≡ replaced (m .work) (a - base) (bytesOf 16 x) → OneChange base m m′
-
-abbrev pub ChangesOne : Type 0
-ChangesOne =
-    (p : List ℕ) (e : Env) (m : Machine) → stepOf p e m .outcome ≡ Finished
-    → OneChange (e .board .work) m (stepOf p e m .after)

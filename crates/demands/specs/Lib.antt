@@ -1,12 +1,17 @@
 pub mod AtCounter
 pub mod Before
 pub mod ByZero
+pub mod Changes
 pub mod Demand1
 pub mod Demand2
 pub mod Demand3
+pub mod Destination
+pub mod Echoes
 pub mod Fixed
 pub mod Kept
+pub mod LaneTables
 pub mod Lanes
+pub mod LanesApart
 pub mod Limits
 pub mod Missing
 pub mod OneAnswer

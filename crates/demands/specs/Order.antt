@@ -5,14 +5,12 @@ use mathlib.Core.List.{List}
 use mathlib.Core.Logic.{_⊎_}
 use Prim.Native.Nat.{ℕ, _+_, _-_, _*_, _≤_, _<_}
 use lib.ListN.{length, getD}
-use Rattle.isa.specs.declared.Greg.{Greg}
 use Rattle.isa.specs.declared.Instr.the-variants as instr
 use Rattle.isa.specs.declared.Memory.{Memory}
 use Rattle.isa.specs.declared.Memory.the-variants.{Ld, St}
 use Rattle.isa.specs.declared.Op.{Op}
 use Rattle.isa.specs.declared.Read.the-variants as read
 use Rattle.isa.specs.declared.Vreg.{Vreg}
-use Rattle.isa.specs.declared.Width.{Width}
 use Rattle.memory.specs.Bytes.{AreBytes}
 use Rattle.ops.specs.Meaning.{memoryAt}
 use Rattle.order.specs.declared.Order.{Order}
@@ -22,7 +20,8 @@ use Rattle.state.specs.Machine.{Env, Machine}
 use Rattle.state.specs.Setup.{refusal}
 use Rattle.machine.specs.declared.step.Outcome.the-variants.{Finished}
 use Rattle.machine.specs.Step.{stepOf}
-use Rattle.demands.specs.AtCounter.{ReadsAs, general, elementBytes, addressFrom}
+use Rattle.demands.specs.AtCounter.{ReadsAs, elementBytes}
+use Rattle.demands.specs.Destination.{Access, firstOf, OfRegister}
 use Rattle.demands.specs.Tables.{Not, Inside}
 
 -- ---- bytes
@@ -40,22 +39,11 @@ IsByte n i j = (n * i + j < 16) × (j < n)
 abbrev pub byteOf : List ℕ → Vreg → ℕ → ℕ → ℕ → ℕ
 byteOf file r n i j = getD file (16 * r .0 + (n * i + j)) 0
 
--- byte b of the vector file is one of register r
-abbrev pub OfRegister : Vreg → ℕ → Type 0
-OfRegister r b = (16 * r .0 ≤ b) × (b < 16 * r .0 + 16)
-
 -- the byte at address x of a window with bytes w from base is b
 abbrev pub ByteAt : ℕ → List ℕ → ℕ → ℕ → Type 0
 ByteAt base w x b = Inside base (length w) x × (getD w (x - base) 0 ≡ b)
 
 -- ---- loads and stores
-
--- the operands of LD and ST
-pub record Access : Type 0 where
-  pub df : Width
-  pub wd : Vreg
-  pub s10 : ℕ
-  pub rs : Greg
 
 -- a finished step of LD or ST
 pub record Done (o : Memory) (x : Access) (p : List ℕ) (e : Env) (m : Machine) : Type 0 where
@@ -63,10 +51,6 @@ pub record Done (o : Memory) (x : Access) (p : List ℕ) (e : Env) (m : Machine)
   pub is : memoryAt (op .0) ≡ o
   pub reads : ReadsAs p e m (read.Instr (instr.Memory op (x .df) (x .wd) (x .s10) (x .rs)))
   pub finished : stepOf p e m .outcome ≡ Finished
-
--- the address of its first byte
-abbrev pub firstOf : Access → Machine → ℕ
-firstOf x m = addressFrom (general m (x .rs)) (x .s10) (elementBytes (x .df))
 
 -- the address of a byte of an element; no window passes 2^64, so none of a finished step does
 abbrev pub addressOf : Access → Env → Machine → ℕ → ℕ → ℕ

@@ -10,7 +10,8 @@ use Rattle.isa.specs.declared.Logic.{Logic}
 use Rattle.isa.specs.declared.Logic.the-variants.{And, Or, Nor, Xor, Bmnz, Bmz, Bsel}
 use Rattle.vectors.specs.Register.{build, element, together}
 use Rattle.vectors.proofs.ElementLaws.{element-below, build-element, build-same}
-use Rattle.vectors.proofs.Wholes.{untouched}
+use Rattle.vectors.proofs.Sizes.{shares-bit}
+use Rattle.vectors.proofs.Wholes.{whole-below, made-below, untouched}
 use Rattle.logic.specs.Logic.{logicBit, andBit, orBit, notBit}
 
 -- bit i of an operation that goes digit by digit
@@ -103,6 +104,9 @@ bit-below Xor d s t p q r = omega arith
 bit-below Bmnz d s t p q r = omega arith
 bit-below Bmz d s t p q r = omega arith
 bit-below Bsel d s t p q r = omega arith
+
+pub logic-below : (op : Logic) (d s t : ℕ) → together 1 (logicBit op) d s t < 2 ^ 128
+logic-below op d s t = whole-below shares-bit _ (made-below 1 (logicBit op) (bit-below op) d s t)
 
 -- a bit of the result depends on that bit of the sources alone
 pub logic-untouched : (op : Logic) (d s t d′ s′ t′ i : ℕ) → i < 128

@@ -2,6 +2,7 @@
 use mathlib.Core.Path.{_≡_, refl, sym, ap, ap₂, _∙_}
 use mathlib.Core.List.{List, [], _∷_, _++_, append-assoc}
 use Prim.Native.Nat.{ℕ, zero, suc, _+_, _-_, _≤_, _<_}
+use native.Mathlib.Decide.{decLt}
 use native.Mathlib.Nat.{add-suc}
 use native.Mathlib.Numerals.{add-one}
 use native.Mathlib.Omega.{arith}
@@ -82,6 +83,15 @@ module _ (d : List ℕ) (at : ℕ) (s : List ℕ) (fits : at + length s ≤ leng
       ∙ getD-append-add (take at d ++ s) (drop (at + length s) d) (k - (at + length s)) 0
       ∙ getD-drop (at + length s) d (k - (at + length s)) 0
       ∙ ap (λ n. getD d n 0) u
+
+  -- every byte that is not in the replacement
+  pub replaced-others : (k : ℕ) → ((at ≤ k) × (k < at + length s) → ⊥) → getD (replaced d at s) k 0 ≡ getD d k 0
+  replaced-others k out = go (decLt k at) (decLt k (at + length s))
+    where
+      go : Dec (k < at) → Dec (k < at + length s) → getD (replaced d at s) k 0 ≡ getD d k 0
+      go (yes l) r = replaced-before k l
+      go (no l) (yes r) = absurd (out (omega arith, r))
+      go (no l) (no r) = replaced-after k (omega arith)
 
   -- the part that was replaced, and any part beside it
   pub part-replaced : part (replaced d at s) at (length s) ≡ s

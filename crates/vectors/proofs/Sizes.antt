@@ -34,9 +34,15 @@ few H = record { some = lit< tt; few = lit≤ tt; double = refl }
 few W = record { some = lit< tt; few = lit≤ tt; double = refl }
 few D = record { some = lit< tt; few = lit≤ tt; double = refl }
 
--- each element lies within the word
+-- each element lies within the word, and within the register
+within : (n all i : ℕ) → n * (all / n) ≡ all → i < all / n → n * i + n ≤ all
+within n all i full h = omega (arith, full, mul-le-mul-left {m = suc i} {n = all / n} n (omega arith))
+
 pub inside : {n : ℕ} → Shares n → (i : ℕ) → i < 64 / n → n * i + n ≤ 64
-inside {n} share i h = omega (arith, share .word, mul-le-mul-left {m = suc i} {n = 64 / n} n (omega arith))
+inside {n} share i h = within n 64 i (share .word) h
+
+pub inside-register : {n : ℕ} → Shares n → (i : ℕ) → i < 128 / n → n * i + n ≤ 128
+inside-register {n} share i h = within n 128 i (share .register) h
 
 -- no element lies past the last
 pub outside : {n : ℕ} → Shares n → (i : ℕ) → 128 / n ≤ i → 128 ≤ n * i
