@@ -31,45 +31,45 @@ lanes (three.Pack o) = false
 lanes three.Vshf = false
 
 -- elements of a format where the operation works on lanes; and else it is of the other tables
-abbrev pub Format : Bool → Bool → Element → Bool
-Format lane? other? ofFormat = lane?
-Format lane? other? ofResult = lane?
-Format lane? other? oneBit = false
-Format lane? other? unlisted = other?
+abbrev pub inFormat : Bool → Bool → Element → Bool
+inFormat lane? other? ofFormat = lane?
+inFormat lane? other? ofResult = lane?
+inFormat lane? other? oneBit = false
+inFormat lane? other? unlisted = other?
 
 -- single bits
-abbrev pub Single : Bool → Element → Bool
-Single other? ofFormat = false
-Single other? ofResult = false
-Single other? oneBit = true
-Single other? unlisted = other?
+abbrev pub inBits : Bool → Element → Bool
+inBits other? ofFormat = false
+inBits other? ofResult = false
+inBits other? oneBit = true
+inBits other? unlisted = other?
 
 abbrev pub allows : Class → Three → Bool → Element → Bool
 allows class.Reserved o other? x = true
-allows class.Three o other? x = Format (lanes o) other? x
-allows class.Indexed o other? x = Format false other? x
-allows class.Imm5U o other? x = Format true other? x
-allows class.Imm5S o other? x = Format true other? x
-allows class.Ldi o other? x = Format false other? x
-allows class.Bit o other? x = Format true other? x
-allows class.Imm8 o other? x = Single other? x
-allows class.Shf o other? x = Format false other? x
-allows class.Element o other? x = Format false other? x
-allows class.Insve o other? x = Format false other? x
-allows class.Copy o other? x = Format false other? x
-allows class.Insert o other? x = Format false other? x
-allows class.Move o other? x = Format false other? x
-allows class.Cfcmsa o other? x = Format false other? x
-allows class.Ctcmsa o other? x = Format false other? x
-allows class.Vec o other? x = Single other? x
-allows class.Fill o other? x = Format false other? x
-allows class.Count o other? x = Format true other? x
-allows class.Memory o other? x = Format false other? x
-allows class.Branch o other? x = Format false other? x
-allows class.BranchV o other? x = Format false other? x
-allows class.Scaled o other? x = Format false other? x
+allows class.Three o other? x = inFormat (lanes o) other? x
+allows class.Indexed o other? x = inFormat false other? x
+allows class.Imm5U o other? x = inFormat true other? x
+allows class.Imm5S o other? x = inFormat true other? x
+allows class.Ldi o other? x = inFormat false other? x
+allows class.Bit o other? x = inFormat true other? x
+allows class.Imm8 o other? x = inBits other? x
+allows class.Shf o other? x = inFormat false other? x
+allows class.Element o other? x = inFormat false other? x
+allows class.Insve o other? x = inFormat false other? x
+allows class.Copy o other? x = inFormat false other? x
+allows class.Insert o other? x = inFormat false other? x
+allows class.Move o other? x = inFormat false other? x
+allows class.Cfcmsa o other? x = inFormat false other? x
+allows class.Ctcmsa o other? x = inFormat false other? x
+allows class.Vec o other? x = inBits other? x
+allows class.Fill o other? x = inFormat false other? x
+allows class.Count o other? x = inFormat true other? x
+allows class.Memory o other? x = inFormat false other? x
+allows class.Branch o other? x = inFormat false other? x
+allows class.BranchV o other? x = inFormat false other? x
+allows class.Scaled o other? x = inFormat false other? x
 allows class.LeftOut o other? x = true
-allows class.Fixed o other? x = Format true other? x
+allows class.Fixed o other? x = inFormat true other? x
 
 abbrev allowed : ℕ → Row → Bool
 allowed k r =
@@ -94,20 +94,20 @@ never : {C : Type 0} → false ≡ true → C
 never h = absurd (let z : _≡_ {A = ℕ} 0 1 = cc in omega arith)
 
 module _ (other? : Bool) (A : ℕ → Type 0) where
-  pub format-view : (df : Width) (lane? : Bool) (x : Element) → Format lane? other? x ≡ true
+  pub format-view : (df : Width) (lane? : Bool) (x : Element) → inFormat lane? other? x ≡ true
       → (lane? ≡ true → A (bits df)) → Viewed (HasBits x (Each df)) other? A
   format-view df lane? ofFormat t a = has (bits df) refl (λ k h. h) (a t)
   format-view df lane? ofResult t a = has (bits df) refl (λ k h. h) (a t)
   format-view df lane? oneBit t a = never t
   format-view df lane? unlisted t a = none t (λ k h. h)
 
-  pub single-view : (f : Form) (x : Element) → Single other? x ≡ true → A 1 → Viewed (HasBits x f) other? A
+  pub single-view : (f : Form) (x : Element) → inBits other? x ≡ true → A 1 → Viewed (HasBits x f) other? A
   single-view f ofFormat t a = never t
   single-view f ofResult t a = never t
   single-view f oneBit t a = has 1 refl (λ k h. h) a
   single-view f unlisted t a = none t (λ k h. h)
 
-  pub no-view : (f : Form) (x : Element) → Format false other? x ≡ true → Viewed (HasBits x f) other? A
+  pub no-view : (f : Form) (x : Element) → inFormat false other? x ≡ true → Viewed (HasBits x f) other? A
   no-view f ofFormat t = never t
   no-view f ofResult t = never t
   no-view f oneBit t = never t

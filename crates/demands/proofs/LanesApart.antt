@@ -47,7 +47,7 @@ use Rattle.demands.specs.LanesApart.{elementIn, Agree, Finishes, Apart, 
 use Rattle.demands.specs.Tables.{Some}
 use Rattle.demands.proofs.Demand2.{formed, ends}
 use Rattle.demands.proofs.Elements.{element-is, register-bytes}
-use Rattle.demands.proofs.LaneTables.{lanes, Format, Single, otherAt, allowed-at}
+use Rattle.demands.proofs.LaneTables.{lanes, inFormat, inBits, otherAt, allowed-at}
 use Rattle.demands.proofs.LaneTables.{Viewed, has, none, format-view, single-view, no-view}
 use Rattle.demands.proofs.Lanes.{byte-after}
 use Rattle.demands.proofs.Reasons.{word-fetched}
@@ -179,7 +179,7 @@ abbrev View : Instr → Type 0
 View i = Viewed (ElementBits i) (otherAt (shownOf i .name)) (Wise i)
 
 -- without lanes
-no-lanes : (i : Instr) → Format false (otherAt (shownOf i .name)) (elementAt (shownOf i .name)) ≡ true → View i
+no-lanes : (i : Instr) → inFormat false (otherAt (shownOf i .name)) (elementAt (shownOf i .name)) ≡ true → View i
 no-lanes i t = no-view (otherAt (shownOf i .name)) (Wise i) (shownOf i .form) (elementAt (shownOf i .name)) t
 
 module _ (i : Instr) (wd : Vreg) (d s t : From) (destination : operandsOf i .destination ≡ inVector wd)
@@ -200,14 +200,14 @@ module _ (i : Instr) (wd : Vreg) (d s t : From) (destination : operandsOf i .des
       }
 
   -- lanes of a format
-  by-format : (k : ℕ) (df : Width) (l : Lane) → Format true (otherAt k) (elementAt k) ≡ true
+  by-format : (k : ℕ) (df : Width) (l : Lane) → inFormat true (otherAt k) (elementAt k) ≡ true
       → Makes i wd d s t (eachLane l (bits df)) → Viewed (HasBits (elementAt k) (Each df)) (otherAt k) (Wise i)
   by-format k df l h makes =
       format-view (otherAt k) (Wise i) df true (elementAt k) h
       (λ t. wise (bits df) (shares df) (eachLane l (bits df)) (each-wise l df) makes)
 
   -- single bits
-  by-bit : (k : ℕ) (f : Form) (o : Logic) → Single (otherAt k) (elementAt k) ≡ true
+  by-bit : (k : ℕ) (f : Form) (o : Logic) → inBits (otherAt k) (elementAt k) ≡ true
       → Makes i wd d s t (together 1 (logicBit o)) → Viewed (HasBits (elementAt k) f) (otherAt k) (Wise i)
   by-bit k f o h makes =
       single-view (otherAt k) (Wise i) f (elementAt k) h
