@@ -42,6 +42,7 @@ use Rattle.state.specs.Setup.{Limit, refusal, first, stateBad, targetBad}
 use Rattle.state.proofs.SetupLaws.{Sized, accepted}
 use Rattle.state.proofs.TestLaws.{or-left, or-right, not-false}
 use Rattle.machine.specs.Effect.{applied, withGeneral, forwarded, pcAfter}
+use Rattle.demands.specs.AtCounter.{IsBranch, format, whole, offsetOf}
 use Rattle.demands.specs.Demand1.{none, more}
 use Rattle.demands.specs.Kept.{StaysAccepted, StepsAccepted}
 use Rattle.demands.proofs.Demand2.{finished-step, meant-there}
@@ -115,21 +116,22 @@ pc-four (Taken x) pc h t = eqb-true _ _ (not-false _ t)
 
 -- plans
 
--- what a plan puts into the control block: MSACSR's bits that exist, and the mark of a branch at the program counter
-abbrev pub Within : ℕ → Plan → Type 0
-Within pc (plan.Stop s) = Unit {0}
-Within pc plan.Nothing = Unit {0}
-Within pc (plan.Vector r v) = Unit {0}
-Within pc (plan.General r x) = Unit {0}
-Within pc (plan.Store a v) = Unit {0}
-Within pc (plan.Csr x) = masked x ≡ x
-Within pc (plan.Branch k) = (taken? : Bool) × (offset : ℕ) × (k ≡ marked taken? (target pc offset))
+-- what the plan of an instruction puts into the control block: MSACSR's bits that exist, and the mark of a branch at
+-- the program counter
+abbrev pub Within : ℕ → Instr → Plan → Type 0
+Within pc i (plan.Stop s) = Unit {0}
+Within pc i plan.Nothing = Unit {0}
+Within pc i (plan.Vector r v) = Unit {0}
+Within pc i (plan.General r x) = Unit {0}
+Within pc i (plan.Store a v) = Unit {0}
+Within pc i (plan.Csr x) = masked x ≡ x
+Within pc i (plan.Branch k) = (b : IsBranch i) × (taken? : Bool) × (k ≡ marked taken? (target pc (offsetOf b)))
 
 module _ (e : Env) (m : Machine) where
-  abbrev Kept : Plan → Type 0
+  abbrev Kept : Instr → Plan → Type 0
   Kept = Within (m .ctl .pc)
 
-  executed-within : (i : Instr) → Kept (executed e m i)
+  executed-within : (i : Instr) → Kept i (executed e m i)
   executed-within (instr.Three o df wd ws wt) = tt
   executed-within (instr.Indexed o df wd ws rt) = tt
   executed-within (instr.Imm5U o df wd ws imm) = tt
@@ -146,25 +148,27 @@ module _ (e : Env) (m : Machine) where
   executed-within (instr.Cfcmsa rd cs) = tt
   executed-within (instr.Ctcmsa cd rs) =
       let x = generalAt (m .gen) rs in
-      control-cases Kept (arming (masked x)) (masked x) tt (masked-twice x) tt (eqb (cd .0) 1) (arms (masked x))
+      control-cases (Kept (instr.Ctcmsa cd rs)) (arming (masked x)) (masked x) tt (masked-twice x) tt (eqb (cd .0) 1)
+      (arms (masked x))
   executed-within (instr.Vec o wd ws wt) = tt
   executed-within (instr.Fill df wd rs) = tt
   executed-within (instr.Count o df wd ws) = tt
   executed-within (instr.Memory o df wd offset rs) =
-      access-cases Kept df (e .board) (e .table) (m .vec) (m .work) wd (address df offset (generalAt (m .gen) rs))
+      access-cases (Kept (instr.Memory o df wd offset rs)) df (e .board) (e .table) (m .vec) (m .work) wd
+      (address df offset (generalAt (m .gen) rs))
       (λ x. tt) (λ i v p. tt) tt (λ x p. tt) (memoryAt (o .0))
-  executed-within (instr.Branch o df wt offset) = (takenOf (zeroAt (o .0)) df (registerAt (m .vec) wt), offset, refl)
-  executed-within (instr.BranchV o wt offset) = (takenVOf (zeroAt (o .0)) (registerAt (m .vec) wt), offset, refl)
+  executed-within (instr.Branch o df wt offset) = (format, takenOf (zeroAt (o .0)) df (registerAt (m .vec) wt), refl)
+  executed-within (instr.BranchV o wt offset) = (whole, takenVOf (zeroAt (o .0)) (registerAt (m .vec) wt), refl)
   executed-within (instr.Scaled o rd rs rt sa) = tt
   executed-within (instr.Fixed o df wd ws wt) = tt
 
-  unless-within : (s : Early) (q : Plan) → Kept q → Kept (unless s q)
-  unless-within Go q h = h
-  unless-within (Stops s) q h = tt
+  unless-within : (i : Instr) (s : Early) (q : Plan) → Kept i q → Kept i (unless s q)
+  unless-within i Go q h = h
+  unless-within i (Stops s) q h = tt
 
-  pub planned-within : (i : Instr) → Within (m .ctl .pc) (planOf e m i)
+  pub planned-within : (i : Instr) → Within (m .ctl .pc) i (planOf e m i)
   unfolding planOf
-  planned-within i = unless-within (early (kindOf i) (m .ctl .mark) (m .ctl .on)) (executed e m i) (executed-within i)
+  planned-within i = unless-within i (early (kindOf i) (m .ctl .mark) (m .ctl .on)) (executed e m i) (executed-within i)
 
 -- a write to a general register keeps the length, and register 0
 module _ (g : List ℕ) (r : Greg) (x : ℕ) (long : length g ≡ 256) (small : r .0 < 32) where
@@ -223,33 +227,33 @@ module _ (p : List ℕ) (e : Env) (m : Machine) (ok : refusal p e m ≡ Accepted
         csr = f (s .csr);
       }
 
-  applied-accepted : (q : Plan) → There (e .board .work) (length (m .work)) q → Within (m .ctl .pc) q
+  applied-accepted : (j : Instr) (q : Plan) → There (e .board .work) (length (m .work)) q → Within (m .ctl .pc) j q
       → refusal p e (applied (e .board .work) q m) ≡ Accepted
-  applied-accepted (plan.Stop s) h i = ok
-  applied-accepted plan.Nothing h i =
+  applied-accepted j (plan.Stop s) h i = ok
+  applied-accepted j plan.Nothing h i =
       like _ _ _ _ refl refl refl (forward (m .gen) Clear (m .ctl .csr) refl (λ z. refl) (λ x. x))
-  applied-accepted (plan.Vector r v) h i =
+  applied-accepted j (plan.Vector r v) h i =
       like _ _ _ _ (withRegister-length (m .vec) r (value v) (sized .vectors) h ∙ sym (sized .vectors)) refl refl
       (forward (m .gen) Clear (m .ctl .csr) refl (λ z. refl) (λ x. x))
-  applied-accepted (plan.General r x) h i =
+  applied-accepted j (plan.General r x) h i =
       like _ _ _ _ refl (withGeneral-length (m .gen) r x (sized .generals) h) refl
       (forward (withGeneral (m .gen) r x) Clear (m .ctl .csr) (withGeneral-zero (m .gen) r x (sized .generals) h)
       (λ z. refl) (λ x. x))
-  applied-accepted (plan.Store a v) h i =
+  applied-accepted j (plan.Store a v) h i =
       like _ _ _ _ refl refl
       (length-replaced (m .work) (a - e .board .work) (bytesOf 16 (value v))
       (omega (arith, length-bytesOf 16 (value v))))
       (forward (m .gen) Clear (m .ctl .csr) refl (λ z. refl) (λ x. x))
-  applied-accepted (plan.Csr x) h i = like _ _ _ _ refl refl refl (forward (m .gen) Clear x refl (λ z. refl) (λ y. i))
-  applied-accepted (plan.Branch k) h (taken?, offset, same) =
+  applied-accepted j (plan.Csr x) h i = like _ _ _ _ refl refl refl (forward (m .gen) Clear x refl (λ z. refl) (λ y. i))
+  applied-accepted j (plan.Branch k) h (b, taken?, same) =
       like _ _ _ _ refl refl refl
-      (forward (m .gen) k (m .ctl .csr) refl (λ z. rw same (marked-four taken? (m .ctl .pc) offset z)) (λ x. x))
+      (forward (m .gen) k (m .ctl .csr) refl (λ z. rw same (marked-four taken? (m .ctl .pc) (offsetOf b) z)) (λ x. x))
 
 pub stays-accepted : StaysAccepted
 stays-accepted p e m ok done =
     let s = finished-step p e m done in
     rw (s .after)
-    (applied-accepted p e m ok (planOf e m (s .instruction)) (meant-there p e m s)
+    (applied-accepted p e m ok (s .instruction) (planOf e m (s .instruction)) (meant-there p e m s)
     (planned-within e m (s .instruction)))
 
 pub steps-accepted : StepsAccepted

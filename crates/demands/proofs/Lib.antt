@@ -1,6 +1,7 @@
 pub mod Addresses
 pub mod Answers
 pub mod Before
+pub mod Budget
 pub mod ByZero
 pub mod Carried
 pub mod Changes
@@ -12,11 +13,13 @@ pub mod Destination
 pub mod Echoes
 pub mod Elements
 pub mod Fixed
+pub mod Forward
 pub mod GoesOn
 pub mod Kept
 pub mod LaneTables
 pub mod Lanes
 pub mod LanesApart
+pub mod Laps
 pub mod Limits
 pub mod Little
 pub mod Missing

@@ -32,7 +32,7 @@ differs x y = not-reflects (eqb x y) (eq-reflects x y)
 registers : (m : Machine) → Reflects (registersBad (length (m .vec)) (length (m .gen))) (Registers m)
 registers m = or-reflects _ _ (differs (length (m .vec)) 512) (differs (length (m .gen)) 256)
 
-program : (base n : ℕ) → Reflects (programBad base n) (Program base n)
+pub program : (base n : ℕ) → Reflects (programBad base n) (Program base n)
 program base n =
     four-reflect _ _ _ _ (differs (base % 4) 0) (differs (n % 4) 0) (lt-reflects 262144 n)
     (lt-reflects (2 ^ 64) (base + n))

@@ -46,7 +46,7 @@ use Rattle.machine.specs.Step.{Result, stepOf, outcomeOf, concluded, attempted,
 use Rattle.machine.specs.Why.{wordHere}
 use Rattle.demands.specs.AtCounter.{IsBranch, format, whole, IgnoresSwitch, scaled, general, elementBytes}
 use Rattle.demands.specs.AtCounter.{addressFrom, firstAddress, Accesses, at, SetsCsr, to, InTable, InWork, Arms}
-use Rattle.demands.specs.AtCounter.{StandsAt, ReadsAs, IsWord, Does}
+use Rattle.demands.specs.AtCounter.{AtWord, StandsAt, ReadsAs, IsWord, Does}
 use Rattle.demands.specs.Reasons.{readStops, stops, FirstReason}
 use Rattle.demands.specs.Tables.{Row, row, First, none, given, passed, Not, Some, little}
 use Rattle.demands.proofs.Addresses.{address-from, all-inside}
@@ -270,6 +270,22 @@ module _ (e : Env) (m : Machine) (sized : Sized e m) where
 
 -- ---- the word at the counter
 
+-- whether a word stands at the address x
+module _ (p : List ℕ) (base x : ℕ) where
+  abbrev pub atWord? : Bool
+  atWord? = leb base x && eqb ((x - base) % 4) 0 && leb (x - base + 4) (length p)
+
+  pub at-word : Reflects atWord? (Some (AtWord p base x))
+  at-word =
+      likewise
+      (λ h.
+      let inside : (x - base) / 4 < length p / 4 = omega (arith, h .0 .0, h .1) in
+      let at : x ≡ base + 4 * ((x - base) / 4) = omega (arith, h .0 .0, h .0 .1) in
+      record { number = (x - base) / 4; holds = (inside, at) })
+      (λ s. let i = s .holds .0 in let k = s .holds .1 in ((omega arith, omega arith), omega arith))
+      (and-reflects _ _ (and-reflects _ _ (le-reflects base x) (eq-reflects ((x - base) % 4) 0))
+      (le-reflects (x - base + 4) (length p)))
+
 module _ (p : List ℕ) (e : Env) (m : Machine) where
   -- there is one
   pub one-reading : {r r′ : Read} → ReadsAs p e m r → ReadsAs p e m r′ → r ≡ r′
@@ -292,25 +308,10 @@ module _ (p : List ℕ) (e : Env) (m : Machine) where
     done d = let k : d .instruction ≡ i = cc (one-reading (d .reads) here) in rw k at (d .holds)
 
   abbrev stands? : Bool
-  stands? =
-      leb (e .board .program) (m .ctl .pc)
-      && eqb ((m .ctl .pc - e .board .program) % 4) 0
-      && leb (m .ctl .pc - e .board .program + 4) (length p)
+  stands? = atWord? p (e .board .program) (m .ctl .pc)
 
   stands : Reflects stands? (Some (StandsAt p e m))
-  stands =
-      likewise
-      (λ h.
-      let inside : (m .ctl .pc - e .board .program) / 4 < length p / 4 = omega (arith, h .0 .0, h .1) in
-      let at : m .ctl .pc ≡ e .board .program + 4 * ((m .ctl .pc - e .board .program) / 4) =
-      omega (arith, h .0 .0, h .0 .1)
-      in
-      record { number = (m .ctl .pc - e .board .program) / 4; holds = (inside, at) })
-      (λ s. let i = s .holds .0 in let k = s .holds .1 in ((omega arith, omega arith), omega arith))
-      (and-reflects _ _
-      (and-reflects _ _ (le-reflects (e .board .program) (m .ctl .pc))
-      (eq-reflects ((m .ctl .pc - e .board .program) % 4) 0))
-      (le-reflects (m .ctl .pc - e .board .program + 4) (length p)))
+  stands = at-word p (e .board .program) (m .ctl .pc)
 
   abbrev w : ℕ
   w = number (part p (m .ctl .pc - e .board .program) 4)

@@ -31,6 +31,11 @@ pub data IsBranch : Instr → Type 0 where
   format : {k : Op} {df : Width} {wt : Vreg} {offset : ℕ} → IsBranch (instr.Branch k df wt offset)
   whole : {k : Op} {wt : Vreg} {offset : ℕ} → IsBranch (instr.BranchV k wt offset)
 
+-- its offset: a field of sixteen bits
+abbrev pub offsetOf : {i : Instr} → IsBranch i → ℕ
+offsetOf {i = instr.Branch k df wt offset} format = offset
+offsetOf {i = instr.BranchV k wt offset} whole = offset
+
 -- LSA and DLSA ignore the switch, so all others do not
 pub data IgnoresSwitch : Instr → Type 0 where
   scaled : {k : Op} {rd rs rt : Greg} {sa : ℕ} → IgnoresSwitch (instr.Scaled k rd rs rt sa)
@@ -96,9 +101,13 @@ pub data TrapBits (v x : ℕ) : Type 0 where
 
 -- ---- the word at the counter
 
+-- word i of a program from base stands at the address x
+abbrev pub AtWord : List ℕ → ℕ → ℕ → ℕ → Type 0
+AtWord p base x i = (i < length p / 4) × (x ≡ base + 4 * i)
+
 -- program word i stands at the counter
 abbrev pub StandsAt : List ℕ → Env → Machine → ℕ → Type 0
-StandsAt p e m i = (i < length p / 4) × (m .ctl .pc ≡ e .board .program + 4 * i)
+StandsAt p e m i = AtWord p (e .board .program) (m .ctl .pc) i
 
 -- the word at the counter reads as r
 abbrev pub ReadsAs : List ℕ → Env → Machine → Read → Type 0

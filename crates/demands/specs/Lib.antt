@@ -1,5 +1,6 @@
 pub mod AtCounter
 pub mod Before
+pub mod Budget
 pub mod ByZero
 pub mod Changes
 pub mod Demand1
@@ -8,10 +9,12 @@ pub mod Demand3
 pub mod Destination
 pub mod Echoes
 pub mod Fixed
+pub mod Forward
 pub mod Kept
 pub mod LaneTables
 pub mod Lanes
 pub mod LanesApart
+pub mod Laps
 pub mod Limits
 pub mod Missing
 pub mod OneAnswer

@@ -1,10 +1,12 @@
-// The C entry: one step, one run, or why the next step would stop, on numbers and byte slices. The slices go on to the
-// machine as they are lent; only the control block is read from its bytes and, by a step or a run, written back.
+// The C entry: one step, one run, why the next step would stop, or how large a budget is enough, on numbers and byte
+// slices. The slices go on to the machine as they are lent; only the control block is read from its bytes and, by a
+// step or a run, written back.
 mod block;
 mod numbers;
 
 use state::board::Board;
 ghost use mathlib.Core.Path.{_≡_};
+ghost use Rattle.budget.specs.Budget.{budgetOf};
 ghost use Rattle.state.specs.Machine.{env, machine};
 ghost use Rattle.machine.specs.Run.{wholeRun};
 ghost use Rattle.machine.specs.Step.{wholeStep};
@@ -146,4 +148,12 @@ pub extern "C" fn msa_why(
         word: y.word,
         fact: y.fact,
     }
+}
+
+// How large a budget is enough for a run from this counter with a clear slot mark; 0 where none is known.
+#[no_mangle]
+pub extern "C" fn msa_budget(program: &[u8], program_base: u64, counter: u64) -> u32
+    ensures { λ r. ⌜ r ≡ budgetOf (now (program .entry)) «program_base» counter ⌝ }
+{
+    budget::forward_budget(program, program_base, counter)
 }

@@ -36,7 +36,7 @@ use Rattle.entry_demands.proofs.Order.{long, run-keeps-order, same-orde
 use Rattle.entry_demands.proofs.Range.{decoded-in-range, run-in-range}
 
 -- no other reason has the number 20
-twenty : (r : Reason) → Reasoned r → reasonNumber r ≡ 20 → r ≡ reason.Spent
+pub twenty : (r : Reason) → Reasoned r → reasonNumber r ≡ 20 → r ≡ reason.Spent
 twenty r spends h = refl
 twenty r (fewer l u) h = absurd (omega arith)
 

@@ -1,4 +1,5 @@
 pub mod Answers
+pub mod Budget
 pub mod GoesOn
 pub mod Order
 pub mod Range

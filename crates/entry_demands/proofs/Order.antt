@@ -32,7 +32,7 @@ not-five Accepted h = let z : _≡_ {A = ℕ} 0 1 = cc in omega arith
 not-five (Refused x) h = let z : _≡_ {A = ℕ} 0 1 = cc in omega arith
 
 module _ (p : List ℕ) (e : Env) (x : Lent) (ok : refusal p e (machineOf x) ≡ Accepted) where
-  in-layout : inLayout (x .control) ≡ true
+  pub in-layout : inLayout (x .control) ≡ true
   in-layout = go (inLayout (x .control)) refl
     where
       go : (t : Bool) → inLayout (x .control) ≡ t → t ≡ true

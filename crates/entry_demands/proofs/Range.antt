@@ -8,6 +8,7 @@ use native.Mathlib.Omega.{arith}
 use borrow.Author.Tests.{eqb-true}
 use lib.Dec.{eqb, leb}
 use lib.ListN.{length}
+use Rattle.isa.specs.declared.Instr.{Instr}
 use Rattle.memory.specs.Bytes.{part, AreBytes}
 use Rattle.memory.proofs.Numbers.{number-below, part-bytes}
 use Rattle.memory.proofs.Parts.{length-part}
@@ -26,6 +27,7 @@ use Rattle.machine.specs.Effect.{controlAfter, forwarded, pcAfter}
 use Rattle.machine.specs.Run.{wholeRun}
 use Rattle.entry.specs.Block.{field, byte, broken, block, byMark, decoded, targetOf}
 use Rattle.entry.specs.Layout.{InRange}
+use Rattle.demands.specs.AtCounter.{offsetOf}
 use Rattle.demands.specs.Demand1.{none, more}
 use Rattle.demands.proofs.Demand1.{accepted-run, refused-run}
 use Rattle.demands.proofs.Demand2.{finished-step}
@@ -88,20 +90,21 @@ module _ (c : Control) (i : InRange c) where
   cleared : InRange (forwarded c Clear (c .csr))
   cleared = forward Clear (c .csr) (omega arith) (i .csr)
 
-  planned-in-range : (q : Plan) → Within (c .pc) q → InRange (controlAfter q c)
-  planned-in-range (plan.Stop s) h = i
-  planned-in-range plan.Nothing h = cleared
-  planned-in-range (plan.Vector r v) h = cleared
-  planned-in-range (plan.General r x) h = cleared
-  planned-in-range (plan.Store a v) h = cleared
-  planned-in-range (plan.Csr x) h = forward Clear x (omega arith) (omega arith)
-  planned-in-range (plan.Branch k) (taken?, offset, same) =
-      forward k (c .csr) (rw same (target-below taken? (c .pc) offset)) (i .csr)
+  planned-in-range : (j : Instr) (q : Plan) → Within (c .pc) j q → InRange (controlAfter q c)
+  planned-in-range j (plan.Stop s) h = i
+  planned-in-range j plan.Nothing h = cleared
+  planned-in-range j (plan.Vector r v) h = cleared
+  planned-in-range j (plan.General r x) h = cleared
+  planned-in-range j (plan.Store a v) h = cleared
+  planned-in-range j (plan.Csr x) h = forward Clear x (omega arith) (omega arith)
+  planned-in-range j (plan.Branch k) (b, taken?, same) =
+      forward k (c .csr) (rw same (target-below taken? (c .pc) (offsetOf b))) (i .csr)
 
 pub step-in-range : StepInRange
 step-in-range p e m done i =
     let s = finished-step p e m done in
-    rw (s .after) (planned-in-range (m .ctl) i (planOf e m (s .instruction)) (planned-within e m (s .instruction)))
+    rw (s .after)
+    (planned-in-range (m .ctl) i (s .instruction) (planOf e m (s .instruction)) (planned-within e m (s .instruction)))
 
 pub steps-in-range : StepsInRange
 steps-in-range p e n m m′ none i = i

@@ -1,4 +1,5 @@
 pub mod Answers
+pub mod Budget
 pub mod Calls
 pub mod GoesOn
 pub mod Order

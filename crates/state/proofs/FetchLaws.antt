@@ -4,7 +4,7 @@ use mathlib.Core.Bool.{Bool, true, false, cond, _&&_}
 use mathlib.Core.List.{List}
 use Prim.Native.Nat.{ℕ, _+_, _-_, _%_, _≤_, _<_}
 use native.Mathlib.Omega.{arith}
-use borrow.Author.Tests.{le-leb, lt-leb, eq-eqb, ne-eqb}
+use borrow.Author.Tests.{leb-true, le-leb, lt-leb, eq-eqb, ne-eqb}
 use lib.Dec.{leb, eqb}
 use lib.ListN.{length}
 use Rattle.memory.specs.Bytes.{part, number}
@@ -28,3 +28,16 @@ module _ (program : List ℕ) (base pc : ℕ) where
   pub fetched-word : base ≤ pc → (pc - base) % 4 ≡ 0 → pc - base + 4 ≤ length program → fetched program base pc ≡ Word (number (part program (pc - base) 4))
   unfolding fetched
   fetched-word b m l = simp (le-leb base pc b, eq-eqb ((pc - base) % 4) 0 m, le-leb (pc - base + 4) (length program) l)
+
+  -- where there is one
+  pub fetched-inside : {w : ℕ} → fetched program base pc ≡ Word w → (base ≤ pc) × (pc - base + 4 ≤ length program)
+  unfolding fetched
+  fetched-inside {w} = go (leb base pc) (eqb ((pc - base) % 4) 0) (leb (pc - base + 4) (length program)) refl refl
+    where
+      go : (a b c : Bool) → leb base pc ≡ a → leb (pc - base + 4) (length program) ≡ c
+          → cond (a && b && c) (Word (number (part program (pc - base) 4))) NoWord ≡ Word w
+          → (base ≤ pc) × (pc - base + 4 ≤ length program)
+      go true true true h k q = (leb-true base pc h, leb-true (pc - base + 4) (length program) k)
+      go true true false h k q = let z : _≡_ {A = ℕ} 0 1 = cc in absurd (omega arith)
+      go true false c h k q = let z : _≡_ {A = ℕ} 0 1 = cc in absurd (omega arith)
+      go false b c h k q = let z : _≡_ {A = ℕ} 0 1 = cc in absurd (omega arith)

@@ -1,15 +1,15 @@
 -- What an accepted set-up keeps.
 use mathlib.Core.Path.{_≡_, refl}
-use mathlib.Core.Bool.{Bool, true, false, cond, _||_}
+use mathlib.Core.Bool.{Bool, true, false, cond, not, _||_}
 use mathlib.Core.List.{List, _∷_}
-use Prim.Native.Nat.{ℕ, _+_, _^_, _≤_}
+use Prim.Native.Nat.{ℕ, _+_, _%_, _^_, _≤_}
 use native.Mathlib.Omega.{arith}
 use borrow.Author.Tests.{ltb-false}
-use lib.Dec.{ltb}
+use lib.Dec.{eqb, ltb}
 use lib.ListN.{length}
 use Rattle.state.specs.declared.setup.Setup.the-variants.{Accepted, Refused}
 use Rattle.state.specs.Machine.{Env, Machine}
-use Rattle.state.specs.Setup.{Limit, refusal, first, windowBad}
+use Rattle.state.specs.Setup.{Limit, refusal, first, programBad, windowBad}
 use Rattle.state.proofs.TestLaws.{or-left, or-right, vectors-sized, generals-sized}
 
 -- a row that is passed is not broken, and the rest is accepted
@@ -27,6 +27,21 @@ window-small base n e = ltb-false 1048576 n (or-left (ltb 1048576 n) (ltb (2 ^ 6
 
 window-ends : (base n : ℕ) → windowBad base n ≡ false → base + n ≤ 2 ^ 64
 window-ends base n e = ltb-false (2 ^ 64) (base + n) (or-right (ltb 1048576 n) (ltb (2 ^ 64) (base + n)) e)
+
+-- and so is a program that keeps its own
+pub record Programmed (base n : ℕ) : Type 0 where
+  pub small : n ≤ 262144
+  pub ends : base + n ≤ 2 ^ 64
+
+pub programmed : (base n : ℕ) → programBad base n ≡ false → Programmed base n
+programmed base n e =
+    let odd = not (eqb (base % 4) 0) || not (eqb (n % 4) 0) in
+    let large = ltb 262144 n in
+    let past = ltb (2 ^ 64) (base + n) in
+    record {
+      small = ltb-false 262144 n (or-right odd large (or-left (odd || large) past e));
+      ends = ltb-false (2 ^ 64) (base + n) (or-right (odd || large) past e);
+    }
 
 pub record Sized (e : Env) (m : Machine) : Type 0 where
   pub vectors : length (m .vec) ≡ 512
@@ -52,3 +67,8 @@ accepted p e m r =
       table = window-ends (e .board .table) (length (e .table)) (or-left t w (three .0));
       work = window-ends (e .board .work) (length (m .work)) (or-right t w (three .0));
     }
+
+pub program-accepted : (p : List ℕ) (e : Env) (m : Machine) → refusal p e m ≡ Accepted
+    → programBad (e .board .program) (length p) ≡ false
+unfolding refusal
+program-accepted p e m r = passed _ _ (passed _ _ r .1) .0

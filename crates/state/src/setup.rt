@@ -42,7 +42,7 @@ fn passes(base: u64, n: usize) -> bool
     u64::MAX - base + 1 < n as u64
 }
 
-fn program_bad(base: u64, n: usize) -> bool
+pub fn program_bad(base: u64, n: usize) -> bool
     ensures { λ r. ⌜ r ≡ programBad base n ⌝ }
 {
     (base % 4 != 0) | (n % 4 != 0) | (262144 < n) | passes(base, n)

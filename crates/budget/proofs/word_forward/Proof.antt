@@ -1,0 +1,18 @@
+-- `budget::word_forward`: by the bits that tell a branch. Assumes nothing.
+use Rattle.budget.proofs.BranchLaws.{word-forward-is}
+use borrow.Author.Needs.{needs}
+use mathlib.Core.Path.{_∙_}
+use Rattle.budget.proofs.word_forward.Statement.{statement}
+use Rattle.budget.proofs.word_forward.Tie as tie
+
+returns : tie.Need-returns
+returns c =
+    c .is-ahead .ensures ∙ rw (c .before .if1 .taken) at (word-forward-is (c .before .before .args .w) (search needs))
+
+returns-2 : tie.Need-returns-2
+returns-2 c = rw (c .if1 .left) at (word-forward-is (c .before .args .w) (search needs))
+
+pub word-forward-spec : {M : Type 1} → statement M
+word-forward-spec =
+    tie.close (tie.spec
+    (λ c. search needs) (λ c κs. search needs) returns returns-2)
