@@ -4,13 +4,14 @@ corners-run.txt, whole, each from the first folder that has it; document 01's ed
 windows that stop; a step of each mnemonic and format of ops.txt; control blocks, those outside docs/LAYOUT.md among
 them; the cases of VECTORS-DIR/after-6 that name a reason, which have its word and its fact; values for MSACSR; the
 big-endian cases of VECTORS-DIR/after-7; loads and stores of each format in both byte orders; and the fixed-point
-multiplies of request 2/12 on corners, with one register for two or three, in programs, and with the switch off.
+multiplies of request 2/12 on corners, with one register for two or three, in programs, and with the switch off; and
+programs of branches, forward and not, with the budget that is enough (request 10/12) and with less.
 
 usage: tools/machine_cases.py VECTORS-DIR/after-2 VECTORS-DIR > crates/machine_test/stdin
 
 All numbers are little-endian. The cases follow each other, each begun by a byte 1:
 
-the head (100 bytes), the vector registers (513), the general registers (264) and the control block (280) before: kept
+the head (112 bytes), the vector registers (513), the general registers (264) and the control block (280) before: kept
     from case to case (zeros at first), and pieces each say what changes
 the contents before of program, table and work window: pieces each, put into windows that were filled with the pattern
     of the head
@@ -31,6 +32,7 @@ The head, by the place of each:
 48 to 68    lengths of vector registers, general registers, control block, program, table, work window (4 each)
 72, 76, 80  patterns of program, table, work window (4 each)
 84, 88, 92  what stands behind the reason: kind (4), word (4) and fact (8); of a step before it, of a run after it
+100, 108    a counter (8), that of the control block before, and what msa_budget answers for it (4)
 """
 import functools
 import glob
@@ -40,6 +42,7 @@ import struct
 import sys
 
 GROUPS = ["step", "run", "kernels", "corners-step", "corners-run", "edges", "forms", "blocks", "why", "order", "fixed"]
+GROUPS += ["forward"]
 KERNELS = ["beams", "correlate", "movavg", "peak", "threshold"]
 BLOCK = "<QQIHBB"  # program counter, target, MSACSR, slot mark, MSA switch, byte order
 ADDV_W = 0x7842094E  # ADDV.W $w5,$w1,$w2
@@ -464,6 +467,91 @@ def fixed_off():
         yield edge(0, "step", 16, p=struct.pack("<I", fixed_word(operation, size, 5, 1, 2)), c=block)
 
 
+def branch_offset(w):
+    """The signed offset of a word that is BZ.V, BNZ.V, BZ or BNZ; None of another."""
+    if w >> 21 in (0b01000101011, 0b01000101111) or w >> 24 == 0b01000111:
+        return (w & 0xFFFF ^ 0x8000) - 0x8000
+    return None
+
+
+def enough(program, base, counter):
+    """Request 10/12: what msa_budget answers."""
+    if base % 4 or len(program) % 4 or len(program) > 4 * 65536 or base + len(program) > 2**64:
+        return 0
+    addresses = range(base, base + len(program), 4)
+    if counter not in addresses:
+        return 1
+    offsets = [branch_offset(w) for (w,) in struct.iter_unpack("<I", program)]
+    return len(offsets) - addresses.index(counter) + 1 if all(x is None or x >= 1 for x in offsets) else 0
+
+
+# words that change nothing: MOVE.V $w3,$w3, LSA $0,$1,$2,1; NOP, an unassigned MSA word, and one that is left out
+MOVE_V, LSA, UNREAD = 0x78BE18D9, 0x00220005, {0x00000000: 14, 0x7800003F: 12, 0x7800001B: 13}
+
+
+def branched(words, base, pc, budget, on):
+    """A run of such words and of branches by $w0, which is zero, and $w1, none of whose bytes is: reason, count,
+    program counter, mark and target."""
+    mark, target = 0, 0
+    for count in range(budget):
+        at = pc - base
+        if not 0 <= at < 4 * len(words):
+            return 11, count, pc, mark, target
+        w = words[at // 4]
+        offset = branch_offset(w)
+        reason = UNREAD.get(w) or (15 if offset is not None and mark else 16 if not on and w != LSA else 0)
+        if reason:
+            return reason, count, pc, mark, target
+        after = target if mark == 2 else (pc + 4) % 2**64
+        mark, target = 0, 0
+        if offset is not None:
+            zero = w >> 16 & 31 == 0
+            taken = zero == (w >> 21 in (0b01000101011, 0b01000111000, 0b01000111001, 0b01000111010, 0b01000111011))
+            mark, target = (2, (pc + 4 + 4 * offset) % 2**64) if taken else (1, 0)
+        pc = after
+    return 20, budget, pc, mark, target
+
+
+def branch_programs():
+    """Programs of no meaning: the words, most of them forward; every fourth also has an offset of 0 or less."""
+    heads = [op << 21 for op in (0b01000101011, 0b01000101111, *range(0b01000111000, 0b01001000000))]
+    for seed in range(160):
+        draw = iter(common(400, 100 + seed))
+        n = 1 + next(draw) % 24
+        words = []
+        for _ in range(n):
+            kind = next(draw) % 8
+            if kind < 3:
+                offset = [1, 1, 2, 3, n, 32767][next(draw) % 6] if next(draw) % 16 or seed % 4 else -next(draw) % 3
+                words.append(heads[next(draw) % 10] | next(draw) % 2 << 16 | offset & 0xFFFF)
+            elif kind == 3 and next(draw) % 4 == 0:
+                words.append([*UNREAD][next(draw) % 3])
+            else:
+                words.append(LSA if kind == 4 else MOVE_V)
+        yield seed, words
+
+
+def branches():
+    """Each program from some of its words and from no word, at address 0 and up to 2^64: as runs with the budget that is
+    enough, or 99 where there is none, one less, and 0."""
+    v = bytes(16) + b"\1" * 16 + common(480, 5)
+    reached = 0
+    for seed, words in branch_programs():
+        program = struct.pack(f"<{len(words)}I", *words)
+        base = 2**64 - len(program) if seed % 2 else 4096 * (seed % 3)
+        on = int(seed % 16 != 3)
+        for i in {0, len(words) // 2, len(words) - 1, len(words)}:
+            pc = (base + 4 * i) % 2**64
+            b = enough(program, base, pc) or 99
+            for budget in {b, b - 1, 0}:
+                reason, count, after, mark, target = branched(words, base, pc, budget, on)
+                assert b == 99 or count < b and (budget < b or reason != 20)
+                reached += count == len(words) - i > 1 and b != 99
+                given = {"p": program, "pb": base, "c": laid(pc, on=on), "budget": budget, "count": count, "v": v}
+                yield edge(0, "run", reason, **given, C=laid(after, mark, target, on=on) if count else laid(pc, on=on))
+    assert reached > 50
+
+
 def pieces(old, new):
     """What changes old into new; places that stand less than four apart go together."""
     assert len(old) == len(new)
@@ -491,7 +579,8 @@ def head(c):
     h += struct.pack("<IIQ", c["reason"], c["count"], c["missing"])
     h += struct.pack("<QQQ", c["pb"], c["tb"], c["wb"])
     h += struct.pack("<6I", *(len(c[k]) for k in "vgcptw")) + b"".join(pattern(c[k]) for k in "ptw")
-    return h + struct.pack("<IIQ", *behind(c))
+    counter = int.from_bytes(c["c"][:8], "little")
+    return h + struct.pack("<IIQQI", *behind(c), counter, enough(c["p"], c["pb"], counter))
 
 
 def record(c, kept):
@@ -525,7 +614,8 @@ def main():
     cases += numbered("order", [*(c for path in shared for c in parsed(path, "order") if c["c"][23]), *accesses()])
     cases += numbered("blocks", blocks(cases))
     cases += numbered("fixed", [*fixed_pairs(), *fixed_same_registers(), *fixed_programs(), *fixed_off()])
-    kept = [bytes(n) for n in (100, 513, 264, 280)]
+    cases += numbered("forward", branches())
+    kept = [bytes(n) for n in (112, 513, 264, 280)]
     for c in cases:
         text, kept = record(c, kept)
         sys.stdout.buffer.write(text)

@@ -1,6 +1,6 @@
 // Replays the cases of standard input through the C entry, `msa_step` and `msa_run`, and compares the answer with its
 // missing address, every register, the control block and the work window, byte for byte; and what `msa_why` says before
-// a step and after a run. tools/machine_cases.py says what a case is made of.
+// a step and after a run, and what `msa_budget` says before either. tools/machine_cases.py says what a case is made of.
 mod head;
 mod pieces;
 mod tally;
@@ -11,7 +11,7 @@ ghost use lib.ListN.{length};
 
 // Whether `msa_why` says of this memory what the head has.
 fn told(
-    h: [u8; 100],
+    h: [u8; 112],
     program: &[u8],
     table: &[u8],
     vectors: &[u8],
@@ -26,9 +26,15 @@ fn told(
     head::why_agrees(h, y.number, y.kind, y.word, y.fact)
 }
 
+// Whether `msa_budget` says of the program what the head has.
+fn sized(h: [u8; 112], program: &[u8]) -> bool {
+    let enough = entry::msa_budget(program, head::base(h, 0), head::counter(h));
+    head::budget_agrees(h, enough)
+}
+
 // Calls what the head names on these registers and windows; whether the answer is the head's.
 fn called(
-    h: [u8; 100],
+    h: [u8; 112],
     program: &[u8],
     table: &[u8],
     vectors: &mut [u8],
@@ -63,7 +69,7 @@ fn called(
 
 // The same on the part of each that the head says.
 fn ran(
-    h: [u8; 100],
+    h: [u8; 112],
     program: &[u8],
     table: &[u8],
     vectors: &mut [u8],
@@ -77,20 +83,22 @@ fn ran(
     let p = io::count(head::length(h, 3), program);
     let t = io::count(head::length(h, 4), table);
     let w = io::count(head::length(h, 5), work);
-    called(
-        h,
-        &program[..p],
-        &table[..t],
-        &mut vectors[..v],
-        &mut generals[..g],
-        &mut work[..w],
-        &mut control[..c],
-    )
+    let enough = sized(h, &program[..p]);
+    enough
+        & called(
+            h,
+            &program[..p],
+            &table[..t],
+            &mut vectors[..v],
+            &mut generals[..g],
+            &mut work[..w],
+            &mut control[..c],
+        )
 }
 
 // Reads the windows before; `want` has the work window's bytes too.
 fn read_windows(
-    h: [u8; 100],
+    h: [u8; 112],
     program: &mut [u8],
     table: &mut [u8],
     work: &mut [u8],
@@ -104,7 +112,7 @@ fn read_windows(
 
 // Reads the contents after, runs the case and compares.
 fn agrees_after(
-    h: [u8; 100],
+    h: [u8; 112],
     vectors: [u8; 513],
     generals: [u8; 264],
     control: [u8; 280],
@@ -132,7 +140,7 @@ fn agrees_after(
 // Reads the next case, runs it and compares. The head, and the registers and the control block before, are kept from
 // case to case.
 fn agrees(
-    h: &mut [u8; 100],
+    h: &mut [u8; 112],
     vectors: &mut [u8; 513],
     generals: &mut [u8; 264],
     control: &mut [u8; 280],
@@ -165,7 +173,7 @@ fn more() -> bool {
 }
 
 fn replay_all(program: &mut [u8], table: &mut [u8], work: &mut [u8], want: &mut [u8]) -> Tally {
-    let mut h = [0u8; 100];
+    let mut h = [0u8; 112];
     let mut v = [0u8; 513];
     let mut g = [0u8; 264];
     let mut c = [0u8; 280];

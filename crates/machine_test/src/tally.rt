@@ -4,15 +4,15 @@ use crate::head;
 use std::num::wrapping_add_u64;
 
 pub struct Tally {
-    pub cases: [u64; 11],
-    pub agree: [u64; 11],
+    pub cases: [u64; 12],
+    pub agree: [u64; 12],
     pub reached: [u64; 32],
 }
 
 pub fn none() -> Tally {
     Tally {
-        cases: [0; 11],
-        agree: [0; 11],
+        cases: [0; 12],
+        agree: [0; 12],
         reached: [0; 32],
     }
 }
@@ -49,13 +49,16 @@ fn name(group: u8) {
         9 => {
             io::write_all(1, b"byte order");
         }
-        _ => {
+        10 => {
             io::write_all(1, b"fixed point");
+        }
+        _ => {
+            io::write_all(1, b"forward");
         }
     }
 }
 
-fn differs(h: [u8; 100]) {
+fn differs(h: [u8; 112]) {
     name(h[0]);
     io::write_all(1, b" case ");
     io::print_decimal(1, head::number(h));
@@ -63,11 +66,11 @@ fn differs(h: [u8; 100]) {
 }
 
 // The tally with one case more.
-pub fn with(t: Tally, h: [u8; 100], agrees: bool) -> Tally {
+pub fn with(t: Tally, h: [u8; 112], agrees: bool) -> Tally {
     let mut cases = t.cases;
     let mut agree = t.agree;
     let mut reached = t.reached;
-    let k = (h[0] % 11) as usize;
+    let k = (h[0] % 12) as usize;
     let r = (h[8] % 32) as usize;
     cases[k] = wrapping_add_u64(cases[k], 1);
     if agrees {
@@ -99,9 +102,9 @@ fn reason(n: usize, times: u64) {
     }
 }
 
-fn lines(agree: [u64; 11], cases: [u64; 11]) {
+fn lines(agree: [u64; 12], cases: [u64; 12]) {
     let mut k: usize = 0;
-    while k < 11 {
+    while k < 12 {
         line(k as u8, agree[k], cases[k]);
         k += 1;
     }

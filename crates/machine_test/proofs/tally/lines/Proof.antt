@@ -9,7 +9,7 @@ abbrev Inv-loop : tie.InvT-loop
 Inv-loop agree cases k₀ k = Unit {0}
 
 abbrev μ-loop : tie.MeasureT-loop
-μ-loop agree cases k₀ k = 11 - k
+μ-loop agree cases k₀ k = 12 - k
 
 pub lines-spec : {M : Type 1} → statement M
 lines-spec =
