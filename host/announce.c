@@ -6,6 +6,8 @@
  *
  * WORDS  a word a line, in hex (host/kernels/bottom.hex; its listing stands beside it)
  * PINGS  a ping a line: SAMPLES echo strengths, two hex digits each
+ * BUDGET of a kernel that branches back, which may go on for as long as its data say: how many instructions it is
+ *        allowed, 1000 where it is not given. A kernel that only branches forward gets what msa_budget says
  *
  * A sounding is passed on only where it is this ping's own: the result cell is cleared
  * before each run, the run must end with MSA_NO_WORD, which is the end of the kernel,
@@ -131,10 +133,20 @@ static void announce(uint16_t number, const uint8_t samples[SAMPLES], uint32_t b
     else printf("ping %u: %u.%02u m (strength %u)\n", number, depth / 100, depth % 100, strength);
 }
 
+/* The budget of every ping's run. Where msa_budget has an answer it is taken: with so many instructions no run from the
+ * kernel's first word ends with MSA_SPENT, whatever the samples are, so no ping's slot is cut short, and none is longer
+ * than it need be. Where it is 0, the kernel branches back, and the caller's number stands between it and the next
+ * ping.
+ */
+static uint32_t sized(uint32_t given) {
+    uint32_t enough = msa_budget(program, program_bytes, 0, 0);
+    return enough != 0 ? enough : given;
+}
+
 int main(int n, char **words) {
     static char line[2 * SAMPLES + 2];
     uint8_t samples[SAMPLES];
-    uint32_t budget = n > 3 ? (uint32_t)strtoul(words[3], NULL, 10) : 1000;
+    uint32_t given = n > 3 ? (uint32_t)strtoul(words[3], NULL, 10) : 1000;
     if (n < 3) {
         puts("announce WORDS PINGS [BUDGET]");
         return 2;
@@ -148,6 +160,7 @@ int main(int n, char **words) {
         printf("%s: no pings\n", words[2]);
         return 2;
     }
+    uint32_t budget = sized(given);
     /* pings are numbered from 1, so that no number is that of a cleared cell */
     for (unsigned number = 1; read_line(f, line, sizeof line); number = number % 65535 + 1)
         if (read_ping(line, samples)) announce((uint16_t)number, samples, budget);

@@ -1,7 +1,7 @@
 /* Replays the shared cases of steps and runs (vectors/FORMAT.md) through the C entry
  * and compares the reason, the count, the missing address and every lent byte; then the
  * control block's own limits, loads and stores in both byte orders, the fixed-point multiplies,
- * and every way to arm a trap.
+ * every way to arm a trap, and the budget of programs that branch forward.
  * Usage: replay FILE.. ; ends with status 1 where anything differs.
  *
  * Each case is run in up to three ways: as it stands; with a target that a mark other than 2
@@ -715,6 +715,70 @@ static void traps(void) {
     printf("traps: %u of %u cases agree\n", agree, cases);
 }
 
+/* whether a word reads as BZ.V, BNZ.V, BZ or BNZ; such a word of these ten opcodes, with a drawn register */
+static int is_branch(uint32_t word) { return word >> 21 == 0x22B || word >> 21 == 0x22F || word >> 24 == 0x47; }
+
+static uint32_t drawn_branch(int offset) {
+    unsigned k = drawn(10);
+    return (k < 2 ? 0x22B + 4 * k : 0x236 + k) << 21 | drawn(32) << 16 | ((uint32_t)offset & 0xFFFF);
+}
+
+/* puts drawn words: branches forward, words of the minor opcode 001110, which are finished, and a few of no meaning */
+static void put_forward(struct test *t, unsigned words) {
+    for (unsigned i = 0; i < words; i++) {
+        uint32_t word = drawn(32) ? 0x7800000E | drawn(1 << 20) << 6 : drawn(1 << 16) << 16 | drawn(1 << 16);
+        if (drawn(3) == 0) word = drawn_branch(drawn(4) ? 1 + (int)drawn(3) : 1 + (int)drawn(32767));
+        if (is_branch(word) && (word & 0xFFFF) - 1 >= 32767) word = 0x7800000E;
+        put(t->program.at + 4 * i, 4, word);
+    }
+}
+
+static uint32_t budget_of(const struct test *t, uint64_t counter) {
+    return msa_budget(t->program.at, t->program.n, t->program_base, counter);
+}
+
+/* a run with this budget on copies */
+static struct msa_ended tried(const struct test *t, uint32_t budget) {
+    struct lent l = copies(&t->before);
+    struct msa_ended end = run(t, &l, budget);
+    give_back(&l);
+    return end;
+}
+
+/* Request 10/12: of drawn programs of n words that branch forward msa_budget is n - i + 1 at word i; a run with it does
+ * not end with MSA_SPENT and finishes at most n - i instructions, and with a smaller one it is spent exactly where they
+ * are as many. It is 1 at no word, and 0 where an offset is 0 or less, and of a program that is refused.
+ */
+static void forward(void) {
+    unsigned cases = 1 << 14, agree = 0, reached = 0;
+    for (unsigned k = 0; k < cases; k++) {
+        unsigned n = 1 + drawn(32), i = drawn(n), back = drawn(n);
+        struct test t = drawn_test(n, drawn(2));
+        if (drawn(2)) t.program_base = UINT64_C(0) - 4 * n;
+        put_forward(&t, n);
+        put(t.before.control.at + MSA_CONTROL_PC, 8, t.program_base + 4 * i);
+        t.before.control.at[MSA_CONTROL_SWITCH] = drawn(16) != 0;
+        struct bytes lent = copy(t.program);
+        uint64_t counter = t.program_base + 4 * i;
+        uint32_t budget = budget_of(&t, counter);
+        struct msa_ended end = tried(&t, budget), less = tried(&t, budget - 1);
+        int right = budget == n - i + 1 && end.reason != MSA_SPENT && end.count < budget && same(t.program, lent);
+        right &= (less.reason == MSA_SPENT) == (end.count == n - i) && less.count == end.count;
+        right &= budget_of(&t, t.program_base + 4 * n) == 1 && budget_of(&t, t.program_base - 4) == 1;
+        right &= budget_of(&t, counter + 1) == 1 && budget_of(&t, counter + 2) == 1;
+        reached += end.count == n - i;
+        put(t.program.at + 4 * back, 4, drawn_branch(-(int)drawn(4)));
+        right &= budget_of(&t, counter) == 0 && budget_of(&t, t.program_base + 4 * n) == 1;
+        t.program_base += 2;
+        right &= budget_of(&t, counter) == 0 && budget_of(&t, counter + 2) == 0;
+        agree += (unsigned)right;
+        free(lent.at);
+        give_back_test(&t);
+    }
+    differences += cases - agree + (reached == 0);
+    printf("forward programs: %u of %u cases agree, %u finish as many as they may\n", agree, cases, reached);
+}
+
 /* each number and each kind has a sentence of its own */
 static void texts(void) {
     unsigned cases = 0, own = 0;
@@ -737,6 +801,7 @@ int main(int n, char **names) {
     round_trips();
     fixed_point();
     traps();
+    forward();
     texts();
     printf("msa_why: %lu calls on fenced read-only pages\n", fenced_calls);
     return differences != 0;
