@@ -160,10 +160,13 @@ module _ (w : ℕ) where
       let t = top-is small in
       omega (arith, u, t, k, d)))
 
-  pub word-forward-is : w < 2 ^ 32
-      → cond (eqb top 555 || eqb top 559 || eqb (top / 8) 71) (ahead (w % 65536)) true ≡ forward (readOf w)
+  -- by the test of these bits
+  abbrev branch? : Bool
+  branch? = eqb top 555 || eqb top 559 || eqb (top / 8) 71
+
+  by-bits : w < 2 ^ 32 → cond branch? (ahead (w % 65536)) true ≡ forward (readOf w)
   unfolding rowAt
-  word-forward-is small = go (eqb top 555) (eqb top 559) (eqb (top / 8) 71) refl refl refl
+  by-bits small = go (eqb top 555) (eqb top 559) (eqb (top / 8) 71) refl refl refl
     where
       go : (a b c : Bool) → eqb top 555 ≡ a → eqb top 559 ≡ b → eqb (top / 8) 71 ≡ c
           → cond (a || b || c) (ahead (w % 65536)) true ≡ forward (readOf w)
@@ -174,3 +177,9 @@ module _ (w : ℕ) where
           by-order (top / 4) 143 (λ l. of-format 6 (lit< tt) (omega arith) refl refl)
           (λ l. of-format 7 (lit< tt) (omega arith) refl refl)
       go false false false p q r = other small (eqb-false top 555 p) (eqb-false top 559 q) (eqb-false (top / 8) 71 r)
+
+  pub branch-forward : w < 2 ^ 32 → branch? ≡ true → ahead (w % 65536) ≡ forward (readOf w)
+  branch-forward small h = rw h at (by-bits small)
+
+  pub other-forward : w < 2 ^ 32 → branch? ≡ false → true ≡ forward (readOf w)
+  other-forward small h = rw h at (by-bits small)

@@ -27,7 +27,8 @@ returns c =
     let back =
     ap (λ w. forward (readOf w)) (sym (word .four .ensures)) ∙ sym (called .word-forward .ensures) ∙ c .if1 .left
     in
-    sym (forward-not _ _ (test .before .loop .i) (test .loop-test .taken) back)
+    let inside = test .loop-test .taken in
+    sym (forward-not _ _ (test .before .loop .i) (omega arith) back)
 
 loop-again : tie.Need-loop-again Inv-loop μ-loop
 loop-again c =
