@@ -62,12 +62,16 @@ forwardTo p (suc n) = forwardTo p n && forward (readOf (number (part p (4 * n) 4
 abbrev pub words : List ℕ → ℕ
 words p = length p / 4
 
+-- from word i on, where every branch goes forward: one more than there are words left; else none
+abbrev pub fromWord : List ℕ → ℕ → ℕ
+fromWord p i = cond (forwardTo p (words p)) (words p - i + 1) 0
+
 -- by what stands at the counter, word i
 abbrev pub enough : Fetched → List ℕ → ℕ → ℕ
-enough (Word w) p i = cond (forwardTo p (words p)) (words p - i + 1) 0
+enough (Word w) p i = fromWord p i
 enough NoWord p i = 1
 
--- 0 is no budget: of a program that set-up refuses with 2, and of one with a branch that does not go forward
+-- and none, which is 0, of a program that set-up refuses with 2
 unfoldable pub budgetOf : List ℕ → ℕ → ℕ → ℕ
 budgetOf p base counter =
     cond (programBad base (length p)) 0 (enough (fetched p base counter) p ((counter - base) / 4))

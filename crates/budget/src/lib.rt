@@ -6,8 +6,10 @@ use state::fetch;
 use state::fetch::Fetched;
 use state::setup;
 ghost use mathlib.Core.Path.{_≡_};
+ghost use Prim.Native.Nat.{_+_, _/_, _≤_};
+ghost use lib.ListN.{length};
 ghost use Rattle.reading.specs.Reading.{readOf};
-ghost use Rattle.budget.specs.Budget.{ahead, forward, forwardTo, words, budgetOf};
+ghost use Rattle.budget.specs.Budget.{ahead, forward, forwardTo, words, fromWord, budgetOf};
 
 // Whether an offset, a signed number, is at least 1.
 fn is_ahead(offset: u16) -> bool
@@ -46,8 +48,20 @@ fn all_forward(program: &[u8]) -> bool
     true
 }
 
-// n - i + 1 where every branch goes forward and the counter is at word i of n; 1 where it is at no word; else, and of a
-// program that set-up refuses, 0.
+// n - i + 1 where every branch goes forward, else 0; word i of n stands at this byte of the program.
+fn from_word(program: &[u8], at: u64) -> u32
+    requires { ⌜ (at + 4 ≤ length (now program)) × (length (now program) ≤ 262144) ⌝ }
+    ensures { λ r. ⌜ r ≡ fromWord (now (program .entry)) (at / 4) ⌝ }
+{
+    if all_forward(program) {
+        let n = (program.len() / 4) as u64;
+        (n - at / 4 + 1) as u32
+    } else {
+        0
+    }
+}
+
+// From the word at the counter; 1 where it is at no word; and 0 of a program that set-up refuses.
 pub fn forward_budget(program: &[u8], base: u64, counter: u64) -> u32
     ensures { λ r. ⌜ r ≡ budgetOf (now (program .entry)) base counter ⌝ }
 {
@@ -57,10 +71,5 @@ pub fn forward_budget(program: &[u8], base: u64, counter: u64) -> u32
     let Fetched::Word(_) = fetch::word_at(program, base, counter) else {
         return 1;
     };
-    if all_forward(program) {
-        let n = (program.len() / 4) as u64;
-        (n - (counter - base) / 4 + 1) as u32
-    } else {
-        0
-    }
+    from_word(program, counter - base)
 }
