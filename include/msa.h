@@ -1,15 +1,16 @@
 /* The C entry of Szafranosz: one step or one run of the integer and fixed-point subset of
  * the MIPS64 SIMD Architecture, rev. 1.12, why the next step would stop, and how large a
- * budget is enough. The layout of the lent bytes is described in docs/LAYOUT.md. Program, registers and control block are
- * little-endian; the elements that a kernel loads from the table and the work window, and
- * stores into the work window, are in the order that the control block names.
+ * budget is enough. The layout of the lent bytes is described in docs/LAYOUT.md. Program,
+ * registers and control block are little-endian; the elements that a kernel loads from the
+ * table and the work window, and stores into the work window, are in the order that the
+ * control block names.
  *
  * Link with target/staticlib/libentry.a (`rt staticlib entry`, x86-64). The four functions
  * msa_step, msa_run, msa_why and msa_budget are pure but for the bytes lent to them: they
  * allocate nothing, keep nothing and call nothing, but for memcpy and memset, which msa_why
- * may call; it and msa_budget are lent every byte for reading only. No pointer may be null, also not with a length of
- * 0, and a slice that is lent for writing must overlap no other. The texts at the end are of
- * this header alone, not of the archive.
+ * may call; it and msa_budget are lent every byte for reading only. No pointer may be null,
+ * also not with a length of 0, and a slice that is lent for writing must overlap no other.
+ * The texts at the end are of this header alone, not of the archive.
  */
 #ifndef MSA_H
 #define MSA_H
@@ -149,10 +150,11 @@ struct msa_why msa_why(const uint8_t *program, size_t program_bytes, uint64_t pr
 
 /* How large a budget is enough for a run from this program counter with a clear slot mark (MSA_MARK_CLEAR). Where every
  * branch of the program (BZ, BNZ, BZ.V, BNZ.V) has an offset of at least 1 and the counter is at word i of n, it is
- * n - i + 1: with this budget or more no run ends with MSA_SPENT, whatever the registers and windows hold; it is refused,
- * or stops by itself after at most n - i instructions. It is 1 where the counter is at no word: then a run stops at
- * once. Else it is 0, and there is no such number: a branch goes back, or to its own slot, or the program is one that
- * a run refuses with MSA_REFUSED_PROGRAM. It depends on nothing else, so it can be asked once for many runs.
+ * n - i + 1: with this budget or more no run ends with MSA_SPENT, whatever the registers and windows hold; it is
+ * refused, or stops by itself after at most n - i instructions. It is 1 where the counter is at no word: then a run is
+ * refused, or stops at once. Else it is 0, and there is no such number: a branch goes back, or to its own slot, or the
+ * program is one that a run refuses with MSA_REFUSED_PROGRAM. It depends on nothing else, so it can be asked once for
+ * many runs.
  */
 uint32_t msa_budget(const uint8_t *program, size_t program_bytes, uint64_t program_base, uint64_t counter);
 

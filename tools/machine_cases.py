@@ -485,8 +485,8 @@ def enough(program, base, counter):
     return len(offsets) - addresses.index(counter) + 1 if all(x is None or x >= 1 for x in offsets) else 0
 
 
-# words that change nothing: MOVE.V $w3,$w3, LSA $0,$1,$2,1; NOP, an unassigned MSA word, and one that is left out
-MOVE_V, LSA, UNREAD = 0x78BE18D9, 0x00220005, {0x00000000: 14, 0x7800003F: 12, 0x7800001B: 13}
+MOVE_V, LSA = 0x78BE18D9, 0x00220005  # MOVE.V $w3,$w3 and LSA $0,$1,$2,1: they change nothing
+UNREAD = {0x00000000: 14, 0x7800003F: 12, 0x7800001B: 13}  # NOP, an unassigned MSA word, and one that is left out
 
 
 def branched(words, base, pc, budget, on):
@@ -513,7 +513,7 @@ def branched(words, base, pc, budget, on):
 
 
 def branch_programs():
-    """Programs of no meaning: the words, most of them forward; every fourth also has an offset of 0 or less."""
+    """Programs of no meaning, of these words and of branches forward; every fourth also has offsets of 0 and less."""
     heads = [op << 21 for op in (0b01000101011, 0b01000101111, *range(0b01000111000, 0b01001000000))]
     for seed in range(160):
         draw = iter(common(400, 100 + seed))
@@ -522,7 +522,9 @@ def branch_programs():
         for _ in range(n):
             kind = next(draw) % 8
             if kind < 3:
-                offset = [1, 1, 2, 3, n, 32767][next(draw) % 6] if next(draw) % 16 or seed % 4 else -next(draw) % 3
+                offset = [1, 1, 2, 3, n, 32767][next(draw) % 6]
+                if seed % 4 == 0 and next(draw) % 3 == 0:
+                    offset = -(next(draw) % 4)
                 words.append(heads[next(draw) % 10] | next(draw) % 2 << 16 | offset & 0xFFFF)
             elif kind == 3 and next(draw) % 4 == 0:
                 words.append([*UNREAD][next(draw) % 3])
@@ -532,24 +534,25 @@ def branch_programs():
 
 
 def branches():
-    """Each program from some of its words and from no word, at address 0 and up to 2^64: as runs with the budget that is
-    enough, or 99 where there is none, one less, and 0."""
+    """Each program from some of its words and from its end, where it begins low in memory or ends at 2^64: as runs with
+    the budget that is enough, or 99 where there is none, with one less, and with 0."""
     v = bytes(16) + b"\1" * 16 + common(480, 5)
-    reached = 0
+    reached = none = 0
     for seed, words in branch_programs():
         program = struct.pack(f"<{len(words)}I", *words)
         base = 2**64 - len(program) if seed % 2 else 4096 * (seed % 3)
         on = int(seed % 16 != 3)
-        for i in {0, len(words) // 2, len(words) - 1, len(words)}:
+        for i in sorted({0, len(words) // 2, len(words) - 1, len(words)}):
             pc = (base + 4 * i) % 2**64
             b = enough(program, base, pc) or 99
-            for budget in {b, b - 1, 0}:
+            for budget in sorted({b, b - 1, 0}):
                 reason, count, after, mark, target = branched(words, base, pc, budget, on)
                 assert b == 99 or count < b and (budget < b or reason != 20)
                 reached += count == len(words) - i > 1 and b != 99
+                none += b == 99
                 given = {"p": program, "pb": base, "c": laid(pc, on=on), "budget": budget, "count": count, "v": v}
                 yield edge(0, "run", reason, **given, C=laid(after, mark, target, on=on) if count else laid(pc, on=on))
-    assert reached > 50
+    assert reached > 50 and none > 50
 
 
 def pieces(old, new):
