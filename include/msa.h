@@ -152,7 +152,7 @@ struct msa_why msa_why(const uint8_t *program, size_t program_bytes, uint64_t pr
  * branch of the program (BZ, BNZ, BZ.V, BNZ.V) has an offset of at least 1 and the counter is at word i of n, it is
  * n - i + 1: with this budget or more no run ends with MSA_SPENT, whatever the registers and windows hold; it is
  * refused, or stops by itself after at most n - i instructions. It is 1 where the counter is at no word: then a run is
- * refused, or stops at once. Else it is 0, and there is no such number: a branch goes back, or to its own slot, or the
+ * refused, or stops at once. Else it is 0, and no such number is known: a branch goes back, or to its own slot, or the
  * program is one that a run refuses with MSA_REFUSED_PROGRAM. It depends on nothing else, so it can be asked once for
  * many runs.
  */
