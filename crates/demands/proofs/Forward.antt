@@ -93,7 +93,8 @@ module _ (p : List ℕ) (e : Env) (kept : Programmed (e .board .program) (length
     beyond h offset f j a =
         let x : pc + 4 + offset * 4 ≡ pc + 4 * (1 + offset) = omega arith in
         let t = target-ahead pc offset f ∙ ap (λ y. y % 2 ^ 64) x in
-        omega (arith, later (1 + offset) (omega (arith, f)) h j (a .0, sym t ∙ a .1), f)
+        let one : 1 ≤ offset = f .0 in
+        omega (arith, later (1 + offset) (omega (arith, f)) h j (a .0, sym t ∙ a .1))
 
     branched : Room pc r → (offset : ℕ) → AtLeastOne offset → (taken? : Bool)
         → Ahead (marked taken? (target pc offset)) ((pc + 4) % 2 ^ 64) (r - 1)
