@@ -26,7 +26,7 @@ use Rattle.state.specs.declared.setup.Setup.the-variants.{Accepted, Refused}
 use Rattle.state.specs.declared.stops.Stop.the-variants.{BranchInSlot}
 use Rattle.state.specs.Machine.{Env, Machine}
 use Rattle.state.specs.Setup.{refusal}
-use Rattle.state.proofs.SetupLaws.{Programmed, programmed, program-accepted}
+use Rattle.state.proofs.SetupLaws.{program-small, program-accepted}
 use Rattle.machine.specs.declared.run.Reason.{Reason}
 use Rattle.machine.specs.declared.run.Reason.the-variants as reason
 use Rattle.machine.specs.declared.step.Outcome.the-variants.{Finished, Stopped}
@@ -52,7 +52,7 @@ target-ahead pc offset h = rw (lt-ltb offset (2 ^ 15) (h .1))
 lands : (base k j : ℕ) → k < 2 ^ 20 → j < 2 ^ 20 → (base + 4 * k) % 2 ^ 64 ≡ base + 4 * j → k ≡ j
 lands base k j a b q = by-order (base + 4 * k) (2 ^ 64) (λ l. omega arith) (λ l. omega arith)
 
-module _ (p : List ℕ) (e : Env) (kept : Programmed (e .board .program) (length p)) (forward : Forward p) where
+module _ (p : List ℕ) (e : Env) (small : length p ≤ 262144) (forward : Forward p) where
   abbrev base : ℕ
   base = e .board .program
 
@@ -79,7 +79,7 @@ module _ (p : List ℕ) (e : Env) (kept : Programmed (e .board .program) (length
     later d l h j a =
         let x : pc + 4 * d ≡ base + 4 * (i + d) = omega (arith, at) in
         let k : i + d ≡ j =
-        lands base (i + d) j (omega (arith, at, kept .small)) (omega (arith, a, kept .small))
+        lands base (i + d) j (omega (arith, at, small)) (omega (arith, a, small))
         (ap (λ y. y % 2 ^ 64) (sym x) ∙ a .1)
         in
         omega (arith, h i at)
@@ -167,13 +167,13 @@ module _ (p : List ℕ) (e : Env) (kept : Programmed (e .board .program) (length
       let rest = steps-within (r - 1) _ _ m′ (one .1) s in
       omega (arith, one .0, rest)
 
-  pub start-ahead : (m : Machine) (i : ℕ) → Starts p e m i → AheadOf (m .ctl) (words p - i)
+  start-ahead : (m : Machine) (i : ℕ) → Starts p e m i → AheadOf (m .ctl) (words p - i)
   start-ahead m i s = rw (s .clear) (λ j a. omega (arith, s .at, a))
 
 pub forward-steps : ForwardSteps
 forward-steps p e m m′ i k forward s steps =
-    let kept = programmed (e .board .program) (length p) (program-accepted p e m (s .ok)) in
-    steps-within p e kept forward (words p - i) k m m′ (start-ahead p e kept forward m i s) steps
+    let small = program-small (e .board .program) (length p) (program-accepted p e m (s .ok)) in
+    steps-within p e small forward (words p - i) k m m′ (start-ahead p e small forward m i s) steps
 
 -- where fewer than b steps can be finished, a run finishes fewer, and does not spend a budget of b
 pub short-run : (p : List ℕ) (e : Env) (m : Machine) (b budget : ℕ) → 0 < b

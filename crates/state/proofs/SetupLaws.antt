@@ -29,19 +29,11 @@ window-ends : (base n : ℕ) → windowBad base n ≡ false → base + n ≤ 2 ^
 window-ends base n e = ltb-false (2 ^ 64) (base + n) (or-right (ltb 1048576 n) (ltb (2 ^ 64) (base + n)) e)
 
 -- and so is a program that keeps its own
-pub record Programmed (base n : ℕ) : Type 0 where
-  pub small : n ≤ 262144
-  pub ends : base + n ≤ 2 ^ 64
-
-pub programmed : (base n : ℕ) → programBad base n ≡ false → Programmed base n
-programmed base n e =
+pub program-small : (base n : ℕ) → programBad base n ≡ false → n ≤ 262144
+program-small base n e =
     let odd = not (eqb (base % 4) 0) || not (eqb (n % 4) 0) in
     let large = ltb 262144 n in
-    let past = ltb (2 ^ 64) (base + n) in
-    record {
-      small = ltb-false 262144 n (or-right odd large (or-left (odd || large) past e));
-      ends = ltb-false (2 ^ 64) (base + n) (or-right (odd || large) past e);
-    }
+    ltb-false 262144 n (or-right odd large (or-left (odd || large) (ltb (2 ^ 64) (base + n)) e))
 
 pub record Sized (e : Env) (m : Machine) : Type 0 where
   pub vectors : length (m .vec) ≡ 512

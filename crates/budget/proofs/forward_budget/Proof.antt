@@ -2,7 +2,7 @@
 use Rattle.budget.specs.Budget.{budgetOf}
 use Rattle.state.proofs.FetchLaws.{fetched-inside}
 use Rattle.state.proofs.Said.{fetched-is}
-use Rattle.state.proofs.SetupLaws.{programmed}
+use Rattle.state.proofs.SetupLaws.{program-small}
 use borrow.Author.Needs.{needs}
 use lib.ListN.{length}
 use mathlib.Core.Path.{sym, _∙_}
@@ -34,10 +34,10 @@ from-word-requires c κs =
     let kept = word .before in
     let a = kept .before .before .before .args in
     let inside = fetched-inside _ _ _ (sym (fetched-is (word .word-at .ensures)) ∙ c .enum-told .given .1) in
-    let ok =
-    programmed (a .base) (length (a .program .now)) (sym (kept .before .program-bad .ensures) ∙ kept .if1 .left)
+    let small =
+    program-small (a .base) (length (a .program .now)) (sym (kept .before .program-bad .ensures) ∙ kept .if1 .left)
     in
-    (inside .1, ok .small)
+    (inside .1, small)
 
 returns-3 : tie.Need-returns-3
 unfolding budgetOf
