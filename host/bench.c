@@ -1,9 +1,12 @@
-/* Times the shared kernels: runs each a fixed number of times through msa_run, checks the
- * answer and every lent byte each time, and prints finished instructions per second.
+/* Times the shared kernels: runs each a fixed number of times through msa_run, checks the answer and every lent byte each
+ * time, and prints finished instructions per second by the least, the median and the mean of the runs. The least is the
+ * one to compare: whatever else the machine does can only add to it.
  *
- *     bench TIMES KERNEL.bin..      (tools/kernels.py writes the files and says their layout)
+ *     bench TIMES BESIDE KERNEL.bin..      (tools/kernels.py writes the files and says their layout)
  *
- * Ends with status 1 where a result is wrong. There are no thresholds: how fast is a matter of the machine.
+ * BESIDE is a file of lines "NAME NANOSECONDS", as host/native.c prints them, or "-": with it, how much of that speed
+ * msa_run has, by the least of each. Ends with status 1 where a result is wrong. There are no thresholds: how fast is a
+ * matter of the machine.
  */
 #define _POSIX_C_SOURCE 199309L /* clock_gettime */
 #include <stdio.h>
@@ -28,9 +31,33 @@ static double seconds(void) {
     return (double)t.tv_sec + (double)t.tv_nsec / 1e9;
 }
 
+static int by_size(const void *a, const void *b) {
+    double x = *(const double *)a, y = *(const double *)b;
+    return (x > y) - (x < y);
+}
+
+/* the seconds that a file has for a kernel, or 0 */
+static double beside(const char *list, const char *name) {
+    char other[64];
+    double nanoseconds, found = 0;
+    FILE *f = strcmp(list, "-") ? fopen(list, "r") : NULL;
+    while (f && fscanf(f, "%63s %lf", other, &nanoseconds) == 2)
+        if (strcmp(other, name) == 0) found = nanoseconds / 1e9;
+    if (f) fclose(f);
+    return found;
+}
+
+/* over all kernels: instructions, and seconds by the least, the median and the mean of each, and beside */
+static struct { double count, least, median, mean, beside; } sum;
+
+static void line(const char *name, double count, double least, double median, double mean, double other) {
+    printf("%-14s %6.0f %8.1f %8.1f %8.1f", name, count, count / least / 1e6, count / median / 1e6, count / mean / 1e6);
+    if (other > 0) printf(" %8.2f", other / least);
+}
+
 /* one kernel; adds to the sums, answers 0 where it is wrong */
-static int bench(const char *name, unsigned times, double *spent, double *finished) {
-    FILE *f = fopen(name, "rb");
+static int bench(const char *path, unsigned times, double *spent, const char *list) {
+    FILE *f = fopen(path, "rb");
     size_t size = f ? fread(file, 1, sizeof file, f) : 0;
     if (f) fclose(f);
     if (size < 48) return 0;
@@ -52,31 +79,41 @@ static int bench(const char *name, unsigned times, double *spent, double *finish
         struct msa_ended end = msa_run(program, words, program_base, table, constants, table_base,
                                        vectors, MSA_VECTORS_BYTES, generals, MSA_GENERALS_BYTES,
                                        work, window, work_base, control, MSA_CONTROL_BYTES, budget);
-        time += seconds() - start;
+        spent[i] = seconds() - start;
+        time += spent[i];
         right &= end.reason == reason && end.count == count && end.missing == 0 && memcmp(now, after, lent) == 0;
     }
     free(now);
-    const char *slash = strrchr(name, '/');
-    printf("%-14s %6u instructions, %8.2f us a run, %6.1f million a second%s\n", slash ? slash + 1 : name, count,
-           1e6 * time / times, count * (double)times / time / 1e6, right ? "" : "  WRONG");
-    *spent += time;
-    *finished += count * (double)times;
+    qsort(spent, times, sizeof *spent, by_size);
+    const char *slash = strrchr(path, '/'), *name = slash ? slash + 1 : path;
+    double other = beside(list, name);
+    line(name, count, spent[0], spent[times / 2], time / times, other);
+    puts(right ? "" : "  WRONG");
+    sum.count += count;
+    sum.least += spent[0];
+    sum.median += spent[times / 2];
+    sum.mean += time / times;
+    sum.beside += other;
     return right;
 }
 
 int main(int n, char **words) {
     unsigned times = n > 1 ? (unsigned)strtoul(words[1], NULL, 10) : 0;
-    double spent = 0, finished = 0;
+    double *spent = malloc((times ? times : 1) * sizeof *spent);
     int wrong = 0;
-    if (n < 3 || times == 0) {
-        puts("bench TIMES KERNEL.bin..");
+    if (n < 4 || times == 0 || !spent) {
+        puts("bench TIMES BESIDE KERNEL.bin..");
         return 2;
     }
-    for (int i = 2; i < n; i++)
-        if (!bench(words[i], times, &spent, &finished)) {
+    printf("%-14s %6s %8s %8s %8s%s\n", "million/s by", "words", "least", "median", "mean",
+           strcmp(words[2], "-") ? "  of QEMU" : "");
+    for (int i = 3; i < n; i++)
+        if (!bench(words[i], times, spent, words[2])) {
             printf("%s: wrong\n", words[i]);
             wrong = 1;
         }
-    if (spent > 0) printf("all: %.1f million finished instructions a second\n", finished / spent / 1e6);
+    line("all", sum.count, sum.least, sum.median, sum.mean, sum.beside);
+    puts("");
+    free(spent);
     return wrong;
 }

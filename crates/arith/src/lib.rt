@@ -1,23 +1,21 @@
-// One element at a width, by numbers: Table 4.1 but SAT, and the compares of Table 4.8.
-ghost use mathlib.Core.Path.{_≡_};
+// Table 4.1 but SAT, and the compares of Table 4.8, on all elements of a word.
 ghost use Rattle.isa.specs.Widths.{bits};
-ghost use Rattle.element.specs.Elements.{Elements};
+ghost use Rattle.parallel.specs.Lanes.{Each3};
 ghost use Rattle.arith.specs.Arith.{arithOf};
 use isa::Arith;
 use isa::Width;
-use linear::dispatch::absolute;
-use linear::dispatch::addition;
-use linear::dispatch::basic;
-use linear::dispatch::compare;
-use linear::dispatch::subtraction;
-use products::dispatch::across;
-use products::dispatch::dot;
-use products::dispatch::product;
+use parallel::dispatch::absolute;
+use parallel::dispatch::addition;
+use parallel::dispatch::basic;
+use parallel::dispatch::compare;
+use parallel::dispatch::subtraction;
+use parallel_halves::across;
+use parallel_products::dispatch::dot;
+use parallel_products::dispatch::product;
 
-// The element that op makes of the old element d and the elements s and t.
+// What op makes of the old word d of wd and the words s and t.
 pub fn arith(op: Arith, w: Width, d: u64, s: u64, t: u64) -> u64
-    requires { ⌜ Elements (bits w) s t ⌝ }
-    ensures { λ r. ⌜ r ≡ arithOf op (bits w) d s t ⌝ }
+    ensures { λ r. ⌜ Each3 (bits w) r (arithOf op (bits w)) d s t ⌝ }
 {
     match op {
         Arith::Basic(o) => basic(o, w, s, t),

@@ -4,9 +4,7 @@ ghost use Prim.Native.Nat.{_^_, _<_};
 ghost use lib.Count as count;
 ghost use lib.Count.{leadingZeros};
 ghost use Rattle.isa.specs.Widths.{bits};
-ghost use Rattle.bits.specs.Places as places;
 use element::count;
-use element::ones;
 use isa::Width;
 
 pub fn pcnt(s: u64) -> u64
@@ -21,11 +19,4 @@ pub fn nlzc(w: Width, s: u64) -> u64
     ensures { λ r. ⌜ r ≡ leadingZeros (bits w) s ⌝ }
 {
     u64::leading_zeros(s) as u64 + count(w) - 64
-}
-
-pub fn nloc(w: Width, s: u64) -> u64
-    requires { ⌜ s < 2 ^ bits w ⌝ }
-    ensures { λ r. ⌜ r ≡ places.nloc (bits w) s ⌝ }
-{
-    nlzc(w, ones(w) - s)
 }

@@ -1,5 +1,3 @@
-// One element at a width, by bits: Table 4.2 with a data format, and SAT of Table 4.1.
-mod counts;
-pub mod dispatch;
-mod places;
-mod shifts;
+// One element at a width: the counts of Table 4.2. Its other operations, and SAT, which `specs` defines here too, are
+// worked out on whole words (crate `parallel_bits`).
+pub mod counts;

@@ -73,24 +73,3 @@ pub fn magnitude(w: Width, x: u64) -> u64
 {
     if x < half(w) { x } else { ones(w) - x + 1 }
 }
-
-// x as an unsigned number in the order of its readings, and back.
-pub fn view(w: Width, g: Reading, x: u64) -> u64
-    requires { ⌜ x < 2 ^ bits w ⌝ }
-    ensures { λ r. ⌜ Element (bits w) r (views.view g (bits w) x) ⌝ }
-{
-    match g {
-        Reading::Unsigned => x,
-        Reading::Signed => flip(w, x),
-    }
-}
-
-// What a view is above the number that it stands for.
-pub fn bias(w: Width, g: Reading) -> u64
-    ensures { λ r. ⌜ r ≡ views.bias g (bits w) ⌝ }
-{
-    match g {
-        Reading::Unsigned => 0,
-        Reading::Signed => half(w),
-    }
-}

@@ -5,3 +5,4 @@ pub mod Room
 pub mod Order
 pub mod Stands
 pub mod Multiplied
+pub mod SixParts

@@ -34,7 +34,7 @@ fn rounding(w: Width, rounded: bool) -> u64
 // d with the product of s and t added, or subtracted. With one for 2^(n - 1), the product of the views s + one and
 // t + one is that of s and t, and one times s + t + one more: this is taken off after the cut. At the product's scale d
 // is a multiple of one, so it is added after the cut too.
-fn summed(w: Width, rounded: bool, minus: bool, d: u64, s: u64, t: u64) -> u64
+pub fn summed(w: Width, rounded: bool, minus: bool, d: u64, s: u64, t: u64) -> u64
     requires { ⌜ (d < 2 ^ bits w) × Elements (bits w) s t × (bits w ≤ 32) ⌝ }
     ensures { λ r. ⌜ r ≡ fixeds.cut rounded (bits w) (fixeds.summed minus (bits w) d s t) ⌝ }
 {
@@ -46,7 +46,7 @@ fn summed(w: Width, rounded: bool, minus: bool, d: u64, s: u64, t: u64) -> u64
 }
 
 // Whether op rounds.
-fn rounds(op: Fixed) -> bool
+pub fn rounds(op: Fixed) -> bool
     ensures { λ r. ⌜ r ≡ parts.rounds op ⌝ }
 {
     match op {
@@ -60,7 +60,7 @@ fn rounds(op: Fixed) -> bool
 }
 
 // Whether op subtracts the product.
-fn subtracts(op: Fixed) -> bool
+pub fn subtracts(op: Fixed) -> bool
     ensures { λ r. ⌜ r ≡ parts.subtracts op ⌝ }
 {
     match op {
@@ -74,7 +74,7 @@ fn subtracts(op: Fixed) -> bool
 }
 
 // The old element: none for a product alone.
-fn old(op: Fixed, d: u64) -> u64
+pub fn old(op: Fixed, d: u64) -> u64
     ensures { λ r. ⌜ r ≡ parts.old op d ⌝ }
 {
     match op {

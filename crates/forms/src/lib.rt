@@ -7,6 +7,7 @@ ghost use Rattle.memory.specs.Value.{value, register};
 ghost use Rattle.forms.specs.Forms.{threeOf, fixedOf, indexedOf, imm5Of, bitOf, imm8Of, countOf};
 ghost use Rattle.forms.specs.Forms as forms;
 use each::each;
+use each::each_arith;
 use isa::Arith;
 use isa::BitOp;
 use isa::Count;
@@ -30,7 +31,7 @@ pub fn three(op: Three, w: Width, d: Register, s: Register, t: Register) -> Regi
     ensures { λ r. ⌜ r ≡ register (threeOf op (bits w) (value d) (value s) (value t)) ⌝ }
 {
     match op {
-        Three::Arith(o) => each(Lane::Arith(o), w, d, s, t),
+        Three::Arith(o) => each_arith(o, w, d, s, t),
         Three::Bitwise(o) => each(Lane::Bit(BitOp::Bitwise(o)), w, d, s, t),
         Three::Rounding(o) => each(Lane::Bit(BitOp::Rounding(o)), w, d, s, t),
         Three::Pack(o) => pack(o, w, s, t),

@@ -1,4 +1,4 @@
-// Every operation with a data format of Tables 4.1, 4.2, 4.7 and 4.8 on one element, behind one name.
+// Every operation with a data format of Tables 4.1, 4.2, 4.7 and 4.8 behind one name, on all elements of a word.
 use isa::Arith;
 use isa::BitOp;
 use isa::Count;

@@ -1,7 +1,4 @@
-// One element at a width: the sums, differences, averages and compares of Tables 4.1 and 4.8.
-// Signed and unsigned forms are one function over the reading; only ADDV and SUBV, and ADD_A through ADDV, go by the four widths.
+// One element at a width: sums and differences that wrap, by the four widths, and a sum that is held to a range. The
+// other operations that `specs` defines here, of Tables 4.1 and 4.8, are worked out on whole words (crate `parallel`).
 pub mod clip;
-mod clipped;
-pub mod dispatch;
-mod order;
 pub mod wrapping;

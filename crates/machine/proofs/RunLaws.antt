@@ -16,13 +16,16 @@ use Rattle.state.specs.declared.fetch.Fetched.the-variants.{Word, NoWord}
 use Rattle.state.specs.declared.stops.Stop.{Stop}
 use Rattle.state.specs.Fetch.{fetched}
 use Rattle.state.specs.Machine.{Env, Machine, machine}
+use Rattle.machine.specs.declared.step.Outcome.{Outcome}
 use Rattle.machine.specs.declared.step.Outcome.the-variants.{Finished, Stopped}
 use Rattle.machine.specs.declared.step.Stepped.{Stepped}
+use Rattle.machine.specs.declared.run.Ended.{Ended}
 use Rattle.machine.specs.declared.run.Reason.{Reason}
 use Rattle.machine.specs.declared.run.Reason.the-variants as reason
 use Rattle.machine.specs.Numbers.{reasonNumber, reasonCarried}
-use Rattle.machine.specs.Run.{Run, RunIs, runs, adding, ended}
-use Rattle.machine.specs.Step.{Result, StepIs, stepOf, concluded, decided, attempted}
+use Rattle.machine.specs.Run.{Run, RunIs, runs, adding, ended, onward, outcomeIn, steppedAs}
+use Rattle.machine.specs.Step.{Result, result, StepIs, stepOf, concluded, decided, attempted}
+use Rattle.machine.proofs.Said.{reason-is}
 
 -- a step that stops leaves the machine as it was
 module _ (e : Env) (m : Machine) (s : Stop) where
@@ -132,3 +135,16 @@ module _ (p : List ℕ) (e : Env) (budget count : ℕ) (m : Machine) (whole : Ru
   sofar-spent h =
       let k : budget - count ≡ 0 = omega arith in
       ends-is whole reason.Spent count m (ap (λ n. adding count (runs p e n m)) (sym k) ∙ i)
+
+-- a run of one instruction is a step
+single : (o : Outcome) (m : Machine) (r : Ended) (v g w : List ℕ) → RunIs (onward o m (ended reason.Spent m)) r v g w
+    → StepIs (result o m) (steppedAs r) v g w
+single Finished m r v g w i =
+    record { outcome = ap outcomeIn (reason-is i); control = i .control; vec = i .vec; gen = i .gen; work = i .work }
+single (Stopped s) m r v g w i =
+    record { outcome = ap outcomeIn (reason-is i); control = i .control; vec = i .vec; gen = i .gen; work = i .work }
+
+pub one-step : (p : List ℕ) (e : Env) (m : Machine) (r : Ended) (v g w : List ℕ) → RunIs (runs p e 1 m) r v g w
+    → StepIs (stepOf p e m) (steppedAs r) v g w
+unfolding runs
+one-step p e m r v g w i = single (stepOf p e m .outcome) (stepOf p e m .after) r v g w i

@@ -11,6 +11,7 @@ use Rattle.machine.specs.declared.run.Reason.{Reason}
 use Rattle.machine.specs.declared.run.Reason.the-variants as reason
 use Rattle.machine.specs.declared.step.Outcome.{Outcome}
 use Rattle.machine.specs.declared.step.Outcome.the-variants.{Finished, Stopped}
+use Rattle.machine.specs.declared.step.Stepped.{Stepped}
 use Rattle.machine.specs.Numbers.{reasonNumber, reasonCarried}
 use Rattle.machine.specs.Step.{stepOf}
 
@@ -35,6 +36,15 @@ onward (Stopped s) m rest = ended (reason.Stopped s) m
 unfoldable pub runs : List ℕ → Env → ℕ → Machine → Run
 runs program e zero m = ended reason.Spent m
 runs program e (suc budget) m = onward (stepOf program e m .outcome) (stepOf program e m .after) (runs program e budget (stepOf program e m .after))
+
+-- how a step ends that is made as a run of one instruction
+abbrev pub outcomeIn : Reason → Outcome
+outcomeIn (reason.Refused r) = Finished
+outcomeIn (reason.Stopped s) = Stopped s
+outcomeIn reason.Spent = Finished
+
+abbrev pub steppedAs : Ended → Stepped
+steppedAs r = record { outcome = outcomeIn (r .reason); control = r .control }
 
 -- a run with its set-up limits: a refused one has count 0 and changes nothing
 abbrev pub admitted : Setup → Run → Machine → Run

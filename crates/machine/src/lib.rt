@@ -8,4 +8,5 @@ mod effect;
 mod probe;
 pub mod run;
 pub mod step;
+mod turns;
 pub mod why;

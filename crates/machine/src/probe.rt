@@ -1,8 +1,8 @@
 // How the next step would end. It is done to scratch memory, so that nothing lent is changed; the general registers are
-// enough there, since an outcome depends on no vector register and on no byte of a window. It is done by `advance`, so
+// enough there, since an outcome depends on no vector register and on no byte of a window. It is done by `one_turn`, so
 // that the reader and the plans have one caller: with a second they are compiled apart, and every step is slower.
-use crate::advance::advance;
 use crate::step::Outcome;
+use crate::turns::one_turn;
 use state::board::Board;
 use state::control::Control;
 use state::stops::Stop;
@@ -32,7 +32,7 @@ fn probe(board: Board, program: &[u8], table: &[u8], generals: &[u8], c: Control
     let mut g = [0u8; 256];
     let mut w = [0u8; 0];
     copy(&mut g, generals);
-    let s = advance(board, program, table, &mut v, &mut g, &mut w, c);
+    let s = one_turn(board, program, table, &mut v, &mut g, &mut w, c);
     s.outcome
 }
 

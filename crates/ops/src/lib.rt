@@ -1,8 +1,12 @@
 // The table of operations in the code: a byte a place, eight places a number. specs/Table.antt has the table in
 // words, and specs/Packed.antt what a byte says.
 use isa::Width;
+use isa::widths::width_code;
 ghost use mathlib.Core.Path.{_≡_};
+ghost use Prim.Native.Nat.{_/_, _%_, _^_};
 ghost use lib.Dec.{eqb};
+ghost use Rattle.isa.specs.declared.Width.{Width};
+ghost use Rattle.isa.specs.Widths.{widthCode};
 ghost use Rattle.ops.specs.Formats as formats;
 ghost use Rattle.ops.specs.Table.{classAt, hasForm};
 ghost use Rattle.ops.specs.Packed.{classCode, formatsOf, byteAt, rowWord};
@@ -62,47 +66,17 @@ pub fn stands(k: u32, class: u64) -> bool
     byte_at(k) % 32 == class
 }
 
-fn not_b(df: Width) -> bool
-    ensures { λ r. ⌜ r ≡ formats.has (formatsOf 1) df ⌝ }
+// A choice of formats, by its number, in bits: a format's stands at the place of its code.
+fn format_bits(n: u64) -> u64
+    ensures { λ r. ⌜ ((df : Width) → eqb (r / 2 ^ widthCode df % 2) 1 ≡ formats.has (formatsOf n) df) ⌝ }
 {
-    match df {
-        Width::B => false,
-        Width::H => true,
-        Width::W => true,
-        Width::D => true,
-    }
-}
-
-fn not_d(df: Width) -> bool
-    ensures { λ r. ⌜ r ≡ formats.has (formatsOf 2) df ⌝ }
-{
-    match df {
-        Width::B => true,
-        Width::H => true,
-        Width::W => true,
-        Width::D => false,
-    }
-}
-
-fn only_b(df: Width) -> bool
-    ensures { λ r. ⌜ r ≡ formats.has (formatsOf 3) df ⌝ }
-{
-    match df {
-        Width::B => true,
-        Width::H => false,
-        Width::W => false,
-        Width::D => false,
-    }
-}
-
-fn only_hw(df: Width) -> bool
-    ensures { λ r. ⌜ r ≡ formats.has (formatsOf 6) df ⌝ }
-{
-    match df {
-        Width::B => false,
-        Width::H => true,
-        Width::W => true,
-        Width::D => false,
+    match n {
+        0 => 0b1111,
+        1 => 0b1110,
+        2 => 0b0111,
+        3 => 0b0001,
+        6 => 0b0110,
+        _ => 0,
     }
 }
 
@@ -110,14 +84,7 @@ fn only_hw(df: Width) -> bool
 pub fn has(n: u64, df: Width) -> bool
     ensures { λ r. ⌜ r ≡ formats.has (formatsOf n) df ⌝ }
 {
-    match n {
-        0 => true,
-        1 => not_b(df),
-        2 => not_d(df),
-        3 => only_b(df),
-        6 => only_hw(df),
-        _ => false,
-    }
+    (format_bits(n) >> (width_code(df) as u64)) % 2 == 1
 }
 
 // Whether the operation at a place has a format.

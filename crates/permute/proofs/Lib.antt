@@ -1,3 +1,7 @@
 -- The laws that the proofs of several functions, and of other crates, share.
-pub mod ChoiceLaws
 pub mod Extensions
+pub mod InsertLaws
+pub mod PackLaws
+pub mod ShuffleLaws
+pub mod SideLaws
+pub mod SlideLaws

@@ -138,7 +138,7 @@ fn execute(
         Instr::Imm8 { op, wd, ws, imm } => vector::imm8(logic_at(op), wd, ws, imm, vectors),
         Instr::Shf { df, wd, ws, imm } => vector::shf(df, wd, ws, imm, vectors),
         Instr::Element { op, df, wd, ws, n } => {
-            vector::indexed(indexed_at(op), df, wd, ws, n as u64, vectors)
+            vector::element(indexed_at(op), df, wd, ws, n, vectors)
         }
         Instr::Insve { df, wd, n, ws } => vector::insve(df, wd, n, ws, vectors),
         Instr::Copy { op, df, rd, ws, n } => moves::copy(copied_at(op), df, rd, ws, n, vectors),

@@ -54,6 +54,17 @@ pub fn indexed(op: Indexed, df: Width, wd: Vreg, ws: Vreg, x: u64, vectors: &[u8
     Plan::Vector(wd, forms::indexed(op, df, d, s, x))
 }
 
+// ELM, by the index n. It does not call `indexed`: a function with two callers takes its slices through memory.
+pub fn element(op: Indexed, df: Width, wd: Vreg, ws: Vreg, n: u8, vectors: &[u8]) -> Plan
+    requires { ⌜ length (now vectors) ≡ 512 ⌝ }
+    ensures { λ r. ⌜ r ≡ writes wd (indexedOf op (bits df) (registerAt (now (vectors .entry)) wd)
+        (registerAt (now (vectors .entry)) ws) n) ⌝ }
+{
+    let d = read_register(vectors, wd);
+    let s = read_register(vectors, ws);
+    Plan::Vector(wd, forms::indexed(op, df, d, s, n as u64))
+}
+
 pub fn imm5(op: Arith, signed: bool, df: Width, wd: Vreg, ws: Vreg, imm: u8, vectors: &[u8]) -> Plan
     requires { ⌜ length (now vectors) ≡ 512 ⌝ }
     ensures { λ r. ⌜ r ≡ writes wd (imm5Of op signed (bits df) (registerAt (now (vectors .entry)) ws) imm) ⌝ }

@@ -2,26 +2,26 @@
 use isa::Width;
 use isa::Zero;
 use memory::Register;
-use vectors::element_at;
-use vectors::elements;
+use parallel::order::compared;
+use parallel::tops;
 ghost use mathlib.Core.Path.{_≡_};
 ghost use Prim.Native.Nat.{_/_};
 ghost use Rattle.isa.specs.Widths.{bits};
 ghost use Rattle.memory.specs.Value.{value};
 ghost use Rattle.plan.specs.Zero.{someZero, takenIf, takenOf, takenVOf};
 
+// Whether some element of a word is zero: 0 is not below it.
+fn zero_in(w: Width, x: u64) -> bool
+    ensures { λ r. ⌜ r ≡ someZero (bits w) x (64 / bits w) ⌝ }
+{
+    (compared(w, 0, x) & tops(w)) != 0
+}
+
 // Whether some element is zero.
 fn some_zero(w: Width, v: Register) -> bool
     ensures { λ r. ⌜ r ≡ someZero (bits w) (value v) (128 / bits w) ⌝ }
 {
-    let mut i = elements(w);
-    while 0 < i {
-        i -= 1;
-        if element_at(w, v, i) == 0 {
-            return true;
-        }
-    }
-    false
+    zero_in(w, v.high) | zero_in(w, v.low)
 }
 
 fn taken_if(op: Zero, zero: bool) -> bool

@@ -19,11 +19,11 @@ use Rattle.products.specs.Products as products
 use Rattle.products.specs.Halves as halves
 
 module _ (n s t : ℕ) where
-  quotient-below : (g : Reading) → products.quotient g n s t < 2 ^ n
+  pub quotient-below : (g : Reading) → products.quotient g n s t < 2 ^ n
   unfolding products.quotient
   quotient-below g = cond-below (eqb t 0) (wrap-below n _) (wrap-below n _)
 
-  remainder-below : (g : Reading) → products.remainder g n s t < 2 ^ n
+  pub remainder-below : (g : Reading) → products.remainder g n s t < 2 ^ n
   unfolding products.remainder
   remainder-below g = cond-below (eqb t 0) (wrap-below n _) (wrap-below n _)
 

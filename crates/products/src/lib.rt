@@ -1,5 +1,4 @@
-// One element at a width: the products and quotients of Table 4.1, and its operations on halves.
-pub mod dispatch;
-mod division;
-mod dot;
+// One element at a width: the products and quotients of Table 4.1. Its operations on halves, which `specs` defines here
+// too, are worked out on whole words (crates `parallel_halves` and `parallel_products`).
+pub mod division;
 pub mod product;

@@ -23,13 +23,6 @@ pub fn per_word(w: Width) -> u64
     }
 }
 
-// The elements in a register.
-pub fn elements(w: Width) -> u64
-    ensures { λ r. ⌜ r ≡ 128 / bits w ⌝ }
-{
-    2 * per_word(w)
-}
-
 // Element i of a word.
 pub fn in_word(w: Width, x: u64, i: u64) -> u64
     requires { ⌜ i < 64 / bits w ⌝ }

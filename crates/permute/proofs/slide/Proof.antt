@@ -1,22 +1,15 @@
--- `permute::slide` meets its contract. The slide is by less than the columns.
-use mathlib.Core.Path.{refl}
+-- `permute::slide` meets its contract. A row has as many bytes as a register has elements.
 use borrow.Author.Needs.{needs}
-use native.Mathlib.Nat.{mod-lt}
 use native.Mathlib.Omega.{arith}
-use Rattle.vectors.proofs.Sizes.{few}
 use Rattle.permute.proofs.slide.Statement.{statement}
 use Rattle.permute.proofs.slide.Tie as tie
 
-rem-t6 : tie.Need-rem-t6
-rem-t6 c = omega (arith, few (c .before .args .w))
-
-arranged-requires : tie.Need-arranged-requires
-arranged-requires c κs =
-    let some = few (c .before .args .w) in
-    (mod-lt (c .before .args .c) (omega arith), omega arith, refl)
-
-returns : tie.Need-returns
-returns c = rw (← c .before .elements .ensures) (c .arranged .ensures)
-
 pub slide-spec : {M : Type 1} → statement M
-slide-spec = tie.close (tie.spec (λ c κs. search needs) rem-t6 arranged-requires returns)
+slide-spec =
+    tie.close (tie.spec
+    (λ c. search needs) (λ c κs. omega arith) (λ c. search needs) (λ c κs. omega arith)
+    (λ c. search needs) (λ c κs. omega arith) (λ c. search needs) (λ c κs. omega arith)
+    (λ c. rw (c .before .enum-told .given .1) (c .one-row .ensures))
+    (λ c. rw (c .before .enum-told2 .given .1) (c .rows .ensures))
+    (λ c. rw (c .before .enum-told3 .given .1) (c .rows2 .ensures))
+    (λ c. rw (c .before .enum-told4 .given .1) (c .rows3 .ensures)))

@@ -9,8 +9,8 @@ lane-spec =
     tie.close
     (tie.spec (λ c. search needs) (λ c κs. search needs) (λ c. search needs) (λ c κs. search needs) (λ c. search needs)
     (λ c κs. search needs) (λ c. search needs)
-    (λ c κs. let pre = c .before .before .before .pre in (pre .0, pre .1, rw (c .before .op4 .given .1) at (pre .2)))
+    (λ c κs. rw (c .before .op4 .given .1) at (c .before .before .before .pre))
     (λ c. rw (c .before .before .op .given .1) (c .arith .ensures))
-    (λ c. rw (c .before .before .op2 .given .1) (c .bit-op .ensures))
-    (λ c. rw (c .before .before .op3 .given .1) (c .count-op .ensures))
+    (λ c. rw (c .before .before .op2 .given .1) (c .bit-word .ensures))
+    (λ c. rw (c .before .before .op3 .given .1) (c .count-word .ensures))
     (λ c. rw (c .before .before .op4 .given .1) (c .fixed .ensures)))

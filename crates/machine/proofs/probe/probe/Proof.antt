@@ -1,4 +1,4 @@
--- `machine::probe::probe`: the step of `advance`, on a copy. Assumes nothing.
+-- `machine::probe::probe`: the step of `one_turn`, on a copy. Assumes nothing.
 use Rattle.machine.specs.Probe.{probeOf}
 use borrow.Author.Needs.{needs}
 use Rattle.machine.proofs.probe.probe.Statement.{statement}
@@ -7,9 +7,9 @@ use Rattle.machine.proofs.probe.probe.Tie as tie
 returns : tie.Need-returns
 unfolding probeOf
 returns c =
-    let advanced = c .before .before .before in
-    let copied = advanced .before .before .before .before .before in
-    rw (← copied .copy .ensures) (advanced .advance .ensures .outcome)
+    let stepped = c .before .before .before in
+    let copied = stepped .before .before .before .before .before in
+    rw (← copied .copy .ensures) (stepped .one-turn .ensures .outcome)
 
 pub probe-spec : {M : Type 1} → statement M
 probe-spec =

@@ -56,7 +56,7 @@ returns-8 : tie.Need-returns-8
 returns-8 c = rw (c .before .before .i8 .given .1) (c .shf .ensures)
 
 returns-9 : tie.Need-returns-9
-returns-9 c = rw (c .before .before .before .i9 .given .1, ← c .before .indexed-at2 .ensures) (c .indexed2 .ensures)
+returns-9 c = rw (c .before .before .before .i9 .given .1, ← c .before .indexed-at2 .ensures) (c .element .ensures)
 
 returns-10 : tie.Need-returns-10
 returns-10 c = rw (c .before .before .i10 .given .1) (c .insve .ensures)
@@ -122,7 +122,7 @@ execute-spec =
     (λ c. search needs) (λ c κs. search needs) (λ c κs. search needs) (λ c. search needs) (λ c κs. search needs)
     (λ c. search needs) (λ c κs. search needs) (λ c κs. search needs) (λ c. search needs) (λ c κs. search needs)
     (λ c κs. search needs) (λ c. search needs) (λ c κs. search needs) (λ c. search needs) (λ c κs. search needs)
-    (λ c. search needs) (λ c κs. search needs) (λ c. search needs) (λ c κs. search needs) (λ c. search needs)
+    (λ c κs. search needs) (λ c. search needs) (λ c κs. search needs) (λ c. search needs)
     (λ c κs. search needs) (λ c κs. search needs) (λ c. search needs) (λ c κs. search needs) (λ c κs. search needs)
     (λ c. search needs) (λ c κs. search needs) (λ c. search needs) (λ c κs. search needs) (λ c. search needs)
     (λ c κs. search needs) (λ c κs. search needs) (λ c. search needs) (λ c κs. search needs) (λ c κs. search needs)

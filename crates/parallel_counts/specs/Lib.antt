@@ -1,0 +1,2 @@
+-- What the steps to a count keep.
+pub mod Runs
