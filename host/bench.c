@@ -1,6 +1,6 @@
-/* Times the shared kernels: runs each a fixed number of times through msa_run, checks the answer and every lent byte each
- * time, and prints finished instructions per second by the least, the median and the mean of the runs. The least is the
- * one to compare: whatever else the machine does can only add to it.
+/* Times the shared kernels: runs each a fixed number of times through msa_run, checks the answer and every lent byte
+ * each time, and prints finished instructions per second by the least, the median and the mean of the runs. The least
+ * is the one to compare: whatever else the machine does can only add to it.
  *
  *     bench TIMES BESIDE KERNEL.bin..      (tools/kernels.py writes the files and says their layout)
  *

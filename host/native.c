@@ -25,7 +25,8 @@ static struct { uint8_t registers[REGISTERS]; uint64_t kept[24]; } state;
  * the kernel goes back to, 13 to 20 its $f24 to $f31. */
 void enter(void *state, const void *words);
 __asm__(".set push\n.set noreorder\n.set noat\n.globl enter\n.type enter, @function\n"
-        ".macro each_vector do\n.irp n,0,1,2,3,4,5,6,7,8,9,10,11,12,13,14,15,16,17,18,19,20,21,22,23,24,25,26,27,28,29,30,31\n"
+        ".macro each_vector do\n.irp n,0,1,2,3,4,5,6,7,8,9,10,11,12,13,14,15,"
+        "16,17,18,19,20,21,22,23,24,25,26,27,28,29,30,31\n"
         "\\do $w\\n, 16*\\n($27)\n.endr\n.endm\n"
         ".macro each_general do\n.irp n,1,2,3,4,5,6,7,8,9,10,11,12,13,14,15,16,17,18,19,20,21,22,23,24,25,28,29,30,31\n"
         "\\do $\\n, 512+8*\\n($27)\n.endr\n.endm\n"

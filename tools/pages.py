@@ -36,8 +36,8 @@ missing += ["label without an edit: " + label for label in sorted(named - gate -
 
 # a record that a contract may be, and the theorem that two answers which meet it are one
 UNIQUE = {
-    "Checks": "one-setup", "Element": "one-element", "Fetches": "one-fetched", "Holds": "one-register",
-    "Lists": "line-unique", "Puts": "put-unique", "Reads": "read-unique", "RunIs": "one-run", "RunsTo": "one-run",
+    "Checks": "one-setup", "Each1": "one-word", "Each2": "one-word", "Each3": "one-word", "Element": "one-element", "Fetches": "one-fetched", "Holds": "one-register",
+    "Lanes": "one-word", "Lists": "line-unique", "Puts": "put-unique", "Reads": "read-unique", "RunIs": "one-run", "RunsTo": "one-run",
     "StepIs": "one-advance", "StepsTo": "one-step", "WholeIs": "one-step", "WhyIs": "one-why",
     "Writes": "write-unique",
 }

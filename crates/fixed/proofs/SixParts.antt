@@ -1,8 +1,7 @@
--- Each of the six is the sum with its parts, whose old element is one too. Assumes nothing.
+-- Each of the six is the sum with its parts. Assumes nothing.
 use mathlib.Core.Path.{_≡_, refl}
 use mathlib.Core.Bool.{true, false}
-use Prim.Native.Nat.{ℕ, _^_, _<_}
-use lib.Pow.{pow-pos}
+use Prim.Native.Nat.{ℕ}
 use Rattle.isa.specs.declared.Fixed.{Fixed}
 use Rattle.isa.specs.declared.Fixed.the-variants.{MulQ, MaddQ, MsubQ, MulrQ, MaddrQ, MsubrQ}
 use Rattle.element.specs.Elements.{Elements}
@@ -19,11 +18,3 @@ parts n size e d MsubQ = refl
 parts n size e d MulrQ = alone n size e true refl
 parts n size e d MaddrQ = refl
 parts n size e d MsubrQ = refl
-
-pub small : (n d : ℕ) → d < 2 ^ n → (o : Fixed) → old o d < 2 ^ n
-small n d h MulQ = pow-pos n
-small n d h MaddQ = h
-small n d h MsubQ = h
-small n d h MulrQ = pow-pos n
-small n d h MaddrQ = h
-small n d h MsubrQ = h

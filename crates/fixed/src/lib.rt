@@ -6,7 +6,6 @@ ghost use Prim.Native.Nat.{_^_, _<_, _≤_};
 ghost use Rattle.isa.specs.Widths.{bits};
 ghost use Rattle.element.specs.Elements.{Elements};
 ghost use Rattle.fixed.specs.Fixed as fixeds;
-ghost use Rattle.fixed.specs.Fixed.{fixedOf};
 ghost use Rattle.fixed.specs.Parts as parts;
 use element::flip;
 use element::half;
@@ -85,12 +84,4 @@ pub fn old(op: Fixed, d: u64) -> u64
         Fixed::MaddrQ => d,
         Fixed::MsubrQ => d,
     }
-}
-
-// The element that op makes of the old element d and the elements s and t.
-pub fn fixed(op: Fixed, w: Width, d: u64, s: u64, t: u64) -> u64
-    requires { ⌜ (d < 2 ^ bits w) × Elements (bits w) s t × (bits w ≤ 32) ⌝ }
-    ensures { λ r. ⌜ r ≡ fixedOf op (bits w) d s t ⌝ }
-{
-    summed(w, rounds(op), subtracts(op), old(op, d), s, t)
 }

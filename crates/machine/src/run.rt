@@ -6,7 +6,6 @@ use state::setup;
 use state::setup::Refusal;
 use state::setup::Setup;
 use state::stops::Stop;
-ghost use mathlib.Core.Path.{_≡_};
 ghost use Rattle.state.specs.Machine.{env, machine};
 ghost use Rattle.machine.specs.Run.{wholeRun, RunIs};
 

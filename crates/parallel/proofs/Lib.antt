@@ -1,5 +1,6 @@
 -- The laws that the proofs of several functions, and of other crates, share.
 pub mod Words
+pub mod Named
 pub mod Turns
 pub mod Whole
 pub mod TopBit
@@ -7,3 +8,4 @@ pub mod Tested
 pub mod Masked
 pub mod Halves
 pub mod Held
+pub mod Limits

@@ -1,10 +1,12 @@
--- A test's answer is the top bit of an element: clear for yes. Masks and picks by it, and the order of two elements as one.
+-- A test's answer is the top bit of an element: clear for yes. Masks and picks by it, and the order of two elements as
+-- one.
 use mathlib.Core.Path.{_≡_, refl, sym, ap, ap₂, _∙_}
 use mathlib.Core.Bool.{Bool, true, false, not, cond}
 use Prim.Native.Nat.{ℕ, _+_, _-_, _*_, _/_, _%_, _^_, _≤_, _<_, min, max}
 use native.Mathlib.Omega.{arith}
-use native.Mathlib.Nat.{mod-lt, mod-eq-of-lt}
-use lib.Bits.{bitAnd, bitOr, bitXor, and-mask, and-zero-r, or-zero-r, or-zero-l, and-shr, or-shr, xor-self, xor-add-and, and-le-l, and-le-r}
+use native.Mathlib.Nat.{mod-eq-of-lt}
+use lib.Bits.{bitAnd, bitOr, bitXor}
+use lib.Bits.{and-mask, and-zero-r, or-zero-r, or-zero-l, and-shr, or-shr, xor-self, xor-add-and, and-le-l, and-le-r}
 use lib.Dec.{ltb, eqb}
 use borrow.Author.Tests.{lt-ltb, le-ltb, eq-eqb, ne-eqb, eqb-true, eqb-false}
 use lib.IntN.{ℤ}
@@ -13,6 +15,8 @@ use lib.Signed.{ltZ, leZ}
 use Rattle.element.specs.Value.{top}
 use Rattle.element.proofs.Diff.{by-order, by-test, same-test, leZ-not}
 use Rattle.element.proofs.Widths.{Size}
+use Rattle.vectors.specs.Register.{element}
+use Rattle.parallel.specs.Lanes.{Lanes, Each3, Tests}
 use Rattle.parallel.proofs.TopBit.{div-low, div-high, mod-low, mod-high, below-top, by-tops, and-top}
 
 module _ (n : ℕ) (size : Size n) where
@@ -30,11 +34,15 @@ module _ (n : ℕ) (size : Size n) where
   pub picked-lane : (b : Bool) {s t : ℕ} → s < 2 ^ n → t < 2 ^ n
       → bitOr (bitAnd s (cond b 0 (2 ^ n - 1))) (bitAnd t (2 ^ n - 1 - cond b 0 (2 ^ n - 1))) ≡ cond b t s
   picked-lane true {s} {t} hs ht =
-      ap₂ bitOr (and-zero-r s) (ap (bitAnd t) (let e : 2 ^ n - 1 - 0 ≡ 2 ^ n - 1 = omega arith in e) ∙ and-mask t n ∙ mod-eq-of-lt ht) ∙ or-zero-l t
+      ap₂ bitOr (and-zero-r s)
+      (ap (bitAnd t) (let e : 2 ^ n - 1 - 0 ≡ 2 ^ n - 1 = omega arith in e) ∙ and-mask t n ∙ mod-eq-of-lt ht)
+      ∙ or-zero-l t
   picked-lane false {s} {t} hs ht =
-      ap₂ bitOr (and-mask s n ∙ mod-eq-of-lt hs) (ap (bitAnd t) (let e : 2 ^ n - 1 - (2 ^ n - 1) ≡ 0 = omega arith in e) ∙ and-zero-r t) ∙ or-zero-r s
+      ap₂ bitOr (and-mask s n ∙ mod-eq-of-lt hs)
+      (ap (bitAnd t) (let e : 2 ^ n - 1 - (2 ^ n - 1) ≡ 0 = omega arith in e) ∙ and-zero-r t)
+      ∙ or-zero-r s
 
-  abbrev pub gauge : ℕ → ℕ → ℕ
+  abbrev gauge : ℕ → ℕ → ℕ
   gauge f g = bitOr (bitAnd f (2 ^ n - 1 - g)) (bitAnd (bitOr f (2 ^ n - 1 - g)) (f % top n + top n - g % top n))
 
   -- f is below g: the carry out of f + (2^n - 1 - g) + 1
@@ -44,7 +52,8 @@ module _ (n : ℕ) (size : Size n) where
     carry ep eq er =
         or-shr (bitAnd f (2 ^ n - 1 - g)) (bitAnd (bitOr f (2 ^ n - 1 - g)) (f % top n + top n - g % top n)) (n - 1)
         ∙ ap₂ bitOr (and-shr f (2 ^ n - 1 - g) (n - 1) ∙ ap₂ bitAnd ep eq)
-        (and-shr (bitOr f (2 ^ n - 1 - g)) (f % top n + top n - g % top n) (n - 1) ∙ ap₂ bitAnd (or-shr f (2 ^ n - 1 - g) (n - 1) ∙ ap₂ bitOr ep eq) er)
+        (and-shr (bitOr f (2 ^ n - 1 - g)) (f % top n + top n - g % top n) (n - 1)
+        ∙ ap₂ bitAnd (or-shr f (2 ^ n - 1 - g) (n - 1) ∙ ap₂ bitOr ep eq) er)
 
     yes : gauge f g / top n ≡ 0 → f < g → ltb (gauge f g) (top n) ≡ ltb f g
     yes e h = same-test (gauge f g) (top n) f g (λ l. h) (λ l. absurd (omega (arith, clear e)))
@@ -61,25 +70,33 @@ module _ (n : ℕ) (size : Size n) where
     pub compared-lane : ltb (gauge f g) (top n) ≡ ltb f g
     compared-lane = by-tops n size hf hg
         (λ a b. by-order (f % top n) (g % top n)
-        (λ h. yes (carry (div-low n size a) (div-high n size (omega (arith, size)) (omega arith)) (more h)) (omega (arith, mod-low n size a, mod-low n size b)))
-        (λ h. no (carry (div-low n size a) (div-high n size (omega (arith, size)) (omega arith)) (less h)) (omega (arith, mod-low n size a, mod-low n size b))))
+        (λ h. yes (carry (div-low n size a) (div-high n size (omega (arith, size)) (omega arith)) (more h))
+        (omega (arith, mod-low n size a, mod-low n size b)))
+        (λ h. no (carry (div-low n size a) (div-high n size (omega (arith, size)) (omega arith)) (less h))
+        (omega (arith, mod-low n size a, mod-low n size b))))
         (λ a b. by-order (f % top n) (g % top n)
         (λ h. yes (carry (div-low n size a) (div-low n size (omega (arith, size))) (more h)) (omega arith))
         (λ h. yes (carry (div-low n size a) (div-low n size (omega (arith, size))) (less h)) (omega arith)))
         (λ a b. by-order (f % top n) (g % top n)
-        (λ h. no (carry (div-high n size a hf) (div-high n size (omega (arith, size)) (omega arith)) (more h)) (omega arith))
-        (λ h. no (carry (div-high n size a hf) (div-high n size (omega (arith, size)) (omega arith)) (less h)) (omega arith)))
+        (λ h. no (carry (div-high n size a hf) (div-high n size (omega (arith, size)) (omega arith)) (more h))
+        (omega arith))
+        (λ h. no (carry (div-high n size a hf) (div-high n size (omega (arith, size)) (omega arith)) (less h))
+        (omega arith)))
         (λ a b. by-order (f % top n) (g % top n)
-        (λ h. yes (carry (div-high n size a hf) (div-low n size (omega (arith, size))) (more h)) (omega (arith, mod-high n size a hf, mod-high n size b hg)))
-        (λ h. no (carry (div-high n size a hf) (div-low n size (omega (arith, size))) (less h)) (omega (arith, mod-high n size a hf, mod-high n size b hg))))
+        (λ h. yes (carry (div-high n size a hf) (div-low n size (omega (arith, size))) (more h))
+        (omega (arith, mod-high n size a hf, mod-high n size b hg)))
+        (λ h. no (carry (div-high n size a hf) (div-low n size (omega (arith, size))) (less h))
+        (omega (arith, mod-high n size a hf, mod-high n size b hg))))
 
   pub bit-small : {z : ℕ} → z < 2 ^ n → z / top n ≤ 1
-  bit-small {z} hz = by-order z (top n) (λ h. omega (arith, div-low n size h)) (λ h. omega (arith, div-high n size h hz))
+  bit-small {z} hz =
+      by-order z (top n) (λ h. omega (arith, div-low n size h)) (λ h. omega (arith, div-high n size h hz))
 
   -- the top bit alone
   pub top-test : {z : ℕ} → z < 2 ^ n → eqb (bitAnd z (top n)) 0 ≡ ltb z (top n)
   top-test {z} hz = by-order z (top n)
-      (λ h. eq-eqb (bitAnd z (top n)) 0 (and-top n size hz ∙ rw (div-low n size h) (omega arith)) ∙ sym (lt-ltb z (top n) h))
+      (λ h. eq-eqb (bitAnd z (top n)) 0 (and-top n size hz ∙ rw (div-low n size h) (omega arith))
+      ∙ sym (lt-ltb z (top n) h))
       (λ h. let one = and-top n size hz ∙ ap (λ q. q * top n) (div-high n size h hz) in
       ne-eqb (bitAnd z (top n)) 0 (λ e. omega (arith, size .some)) ∙ sym (le-ltb z (top n) h))
 
@@ -102,12 +119,15 @@ nonzero-lane f = by-order 0 f
     (λ h. lt-ltb 0 f h ∙ sym (ap not (ne-eqb f 0 (omega arith))))
     (λ h. le-ltb 0 f h ∙ sym (ap not (eq-eqb f 0 (omega arith))))
 
-pub equal-lane : (f g : ℕ) → ltb 0 (bitXor f g) ≡ not (eqb f g)
+equal-lane : (f g : ℕ) → ltb 0 (bitXor f g) ≡ not (eqb f g)
 equal-lane f g = go (eqb f g) refl
   where
     go : (b : Bool) → eqb f g ≡ b → ltb 0 (bitXor f g) ≡ not b
     go true e = ap (λ x. ltb 0 (bitXor f x)) (sym (eqb-true f g e)) ∙ ap (ltb 0) (xor-self f)
-    go false e = lt-ltb 0 (bitXor f g) (by-order 0 (bitXor f g) (λ h. h) (λ h. absurd (eqb-false f g e (omega (arith, xor-add-and f g, and-le-l f g, and-le-r f g)))))
+    go false e =
+        lt-ltb 0 (bitXor f g)
+        (by-order 0 (bitXor f g) (λ h. h)
+        (λ h. absurd (eqb-false f g e (omega (arith, xor-add-and f g, and-le-l f g, and-le-r f g)))))
 
 pub le-mask : (m : ℕ) (y z : ℤ) {b : Bool} → b ≡ ltZ z y → cond b 0 m ≡ cond (leZ y z) m 0
 le-mask m y z e = ap (λ x. cond x 0 m) e ∙ go (ltZ z y) ∙ ap (λ x. cond x m 0) (sym (leZ-not y z))
@@ -122,3 +142,15 @@ equal-mask m f g e = ap (λ x. cond x 0 m) (e ∙ equal-lane f g) ∙ go (eqb f 
     go : (x : Bool) → cond (not x) 0 m ≡ cond x m 0
     go true = refl
     go false = refl
+
+-- the order of two words' elements, by what the elements are; and a pick by what a test says
+pub order-of : {n z x y : ℕ} {f g : ℕ → ℕ} → Tests n z (λ i. ltb (element n x i) (element n y i))
+    → Lanes n x f → Lanes n y g → Tests n z (λ i. ltb (f i) (g i))
+order-of e a b = record { answer = λ i l. e .answer i l ∙ ap₂ ltb (a .at i l) (b .at i l) }
+
+pub picked-by : {n r z : ℕ} (s t : ℕ) {p : ℕ → Bool} → Each3 n r (λ a y x. cond (ltb a (top n)) y x) z s t → Tests n z p
+    → Lanes n r (λ i. cond (p i) (element n s i) (element n t i))
+picked-by {n} s t a e = record {
+  below = a .below;
+  at = λ i l. a .at i l ∙ ap (λ b. cond b (element n s i) (element n t i)) (e .answer i l);
+}

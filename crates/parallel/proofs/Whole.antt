@@ -6,7 +6,7 @@ use native.Mathlib.Nat.{mod-eq-of-lt, div-one}
 use Rattle.vectors.specs.Register.{element}
 use Rattle.parallel.specs.Lanes.{Each2}
 
-pub only : (x i : ℕ) → x < 2 ^ 64 → i < 1 → element 64 x i ≡ x
+only : (x i : ℕ) → x < 2 ^ 64 → i < 1 → element 64 x i ≡ x
 unfolding element
 only x zero h l = ap (λ z. z % 2 ^ 64) (div-one x) ∙ mod-eq-of-lt h
 only x (suc i) h l = absurd (omega arith)

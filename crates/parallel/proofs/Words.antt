@@ -1,11 +1,13 @@
--- What the operations on words make of elements. Bitwise operations go element by element; sums, differences and products with a
--- number do wherever no element overflows: a word is the sum of its elements at their places, and that is linear.
+-- What the operations on words make of elements. Bitwise operations go element by element; sums, differences and
+-- products with a number do wherever no element overflows: a word is the sum of its elements at their places, and that
+-- is linear.
 use mathlib.Core.Path.{_≡_, refl, sym, ap, ap₂, _∙_}
 use Prim.Native.Nat.{ℕ, zero, suc, _+_, _-_, _*_, _/_, _%_, _^_, _≤_, _<_}
 use native.Mathlib.Omega.{arith}
 use native.Mathlib.Nat.{mod-lt, mod-eq-of-lt}
-use lib.Bits.{bitAnd, bitOr, bitXor, and-shr, or-shr, xor-shr, and-mod, or-mod, xor-mod, and-lt, or-lt, xor-lt, and-mask}
-use lib.Pow.{pow-pos, shr-shr, shr-le, field, mod-mod-pow, ones-lt, ones-split}
+use lib.Bits.{bitAnd, bitOr, bitXor}
+use lib.Bits.{and-shr, or-shr, xor-shr, and-mod, or-mod, xor-mod, and-lt, or-lt, xor-lt, and-mask}
+use lib.Pow.{pow-pos, shr-shr, shr-le, shr-mod, field, mod-mod-pow, ones-lt, ones-split}
 use lib.Pow as pow
 use Rattle.vectors.specs.Register.{element, build}
 use Rattle.vectors.proofs.ElementLaws.{element-below, build-below, build-same, build-element, element-build}
@@ -40,12 +42,14 @@ module _ {n : ℕ} (share : Shares n) where
       ∙ (rw (share .word) at (sym (build-element n x (64 / n))))
       ∙ build-same n (element n x) f (64 / n) (a .at)
 
-  pub of-built : (f : ℕ → ℕ) → ((i : ℕ) → i < 64 / n → f i < 2 ^ n) → Lanes n (build n f (64 / n)) f
+  of-built : (f : ℕ → ℕ) → ((i : ℕ) → i < 64 / n → f i < 2 ^ n) → Lanes n (build n f (64 / n)) f
   of-built f room =
-      let e : build n f (64 / n) ≡ build n (λ i. f i % 2 ^ n) (64 / n) = build-same n f (λ i. f i % 2 ^ n) (64 / n) (λ i l. sym (mod-eq-of-lt (room i l))) in
+      let e : build n f (64 / n) ≡ build n (λ i. f i % 2 ^ n) (64 / n) =
+      build-same n f (λ i. f i % 2 ^ n) (64 / n) (λ i l. sym (mod-eq-of-lt (room i l))) in
       rw e (record {
         below = rw (share .word) at (build-below n (λ i. f i % 2 ^ n) (λ i. mod-lt (f i) (pow-pos n)) (64 / n));
-        at = λ i l. element-build n (λ i. f i % 2 ^ n) (λ i. mod-lt (f i) (pow-pos n)) (64 / n) i l ∙ mod-eq-of-lt (room i l);
+        at = λ i l. element-build n (λ i. f i % 2 ^ n) (λ i. mod-lt (f i) (pow-pos n)) (64 / n) i l
+            ∙ mod-eq-of-lt (room i l);
       })
 
   pub made : {x : ℕ} (f : ℕ → ℕ) → x ≡ build n f (64 / n) → ((i : ℕ) → i < 64 / n → f i < 2 ^ n) → Lanes n x f
@@ -68,7 +72,8 @@ module _ {n : ℕ} (share : Shares n) where
     pub minus-lanes : ((i : ℕ) → i < 64 / n → g i ≤ f i) → Lanes n (x - y) (λ i. f i - g i)
     minus-lanes less = made (λ i. f i - g i) (omega (arith, whole-again less)) (λ i l. omega (arith, fits a i l))
 
-  pub times-lanes : {x : ℕ} {f : ℕ → ℕ} → Lanes n x f → (c : ℕ) → ((i : ℕ) → i < 64 / n → f i * c < 2 ^ n) → Lanes n (x * c) (λ i. f i * c)
+  pub times-lanes : {x : ℕ} {f : ℕ → ℕ} → Lanes n x f → (c : ℕ) → ((i : ℕ) → i < 64 / n → f i * c < 2 ^ n)
+      → Lanes n (x * c) (λ i. f i * c)
   times-lanes {f = f} a c room = made (λ i. f i * c) (ap (λ p. p * c) (built a) ∙ build-scale n f c (64 / n)) room
 
   -- an operation that goes bit by bit goes element by element
@@ -80,7 +85,10 @@ module _ {n : ℕ} (share : Shares n) where
     op-element x y i = ap (λ z. z % 2 ^ n) (shr x y (n * i)) ∙ rem (x / 2 ^ (n * i)) (y / 2 ^ (n * i)) n
 
     op-lanes : {x y : ℕ} {f g : ℕ → ℕ} → Lanes n x f → Lanes n y g → Lanes n (op x y) (λ i. op (f i) (g i))
-    op-lanes {x} {y} a b = record { below = bound 64 x y (a .below) (b .below); at = λ i l. op-element x y i ∙ ap₂ op (a .at i l) (b .at i l) }
+    op-lanes {x} {y} a b = record {
+      below = bound 64 x y (a .below) (b .below);
+      at = λ i l. op-element x y i ∙ ap₂ op (a .at i l) (b .at i l);
+    }
 
   pub and-lanes : {x y : ℕ} {f g : ℕ → ℕ} → Lanes n x f → Lanes n y g → Lanes n (bitAnd x y) (λ i. bitAnd (f i) (g i))
   and-lanes a b = op-lanes bitAnd and-shr and-mod and-lt a b
@@ -91,42 +99,32 @@ module _ {n : ℕ} (share : Shares n) where
   pub xor-lanes : {x y : ℕ} {f g : ℕ → ℕ} → Lanes n x f → Lanes n y g → Lanes n (bitXor x y) (λ i. bitXor (f i) (g i))
   xor-lanes a b = op-lanes bitXor xor-shr xor-mod xor-lt a b
 
-  -- a shift to the right, with a mask that takes off what came from the next element
-  moved : (x j k i : ℕ) → n ≡ j + k → element n (x / 2 ^ k) i % 2 ^ j ≡ element n x i / 2 ^ k
-  unfolding element
-  moved x j k i e =
-      let order : x / 2 ^ k / 2 ^ (n * i) ≡ x / 2 ^ (n * i) / 2 ^ k = shr-shr x k (n * i) ∙ ap (λ p. x / 2 ^ p) (omega arith) ∙ sym (shr-shr x (n * i) k) in
-      let power : 2 ^ n ≡ 2 ^ (k + j) = ap (λ p. 2 ^ p) (omega arith) in
-      let power2 : 2 ^ n ≡ 2 ^ (j + k) = ap (λ p. 2 ^ p) e in
-      ap (λ p. x / 2 ^ k / 2 ^ (n * i) % p % 2 ^ j) power
-      ∙ mod-mod-pow (x / 2 ^ k / 2 ^ (n * i)) k j
-      ∙ ap (λ z. z % 2 ^ j) order
-      ∙ sym (field (x / 2 ^ (n * i)) j k)
-      ∙ ap (λ p. x / 2 ^ (n * i) % p / 2 ^ k) (sym power2)
-
-  pub shr-lanes : {x y : ℕ} {f : ℕ → ℕ} → Lanes n x f → (j k : ℕ) → n ≡ j + k → Lanes n y (λ _. 2 ^ j - 1) → Lanes n (bitAnd (x / 2 ^ k) y) (λ i. f i / 2 ^ k)
-  shr-lanes {x} {y} {f} a j k e b =
-      let low : x / 2 ^ k < 2 ^ 64 = omega (arith, shr-le x k, a .below) in
-      same-lanes (and-lanes (own (x / 2 ^ k) low) b)
-      (λ i l. and-mask (element n (x / 2 ^ k) i) j ∙ moved x j k i e ∙ ap (λ z. z / 2 ^ k) (a .at i l))
-
-  -- a narrower field of every element
+  -- a field of every element: a shift to the right, with a mask that takes off the rest
   narrow : (x j k r i : ℕ) → n ≡ r + j + k → element n (x / 2 ^ k) i % 2 ^ j ≡ element n x i / 2 ^ k % 2 ^ j
   unfolding element
   narrow x j k r i e =
-      let order : x / 2 ^ k / 2 ^ (n * i) ≡ x / 2 ^ (n * i) / 2 ^ k = shr-shr x k (n * i) ∙ ap (λ p. x / 2 ^ p) (omega arith) ∙ sym (shr-shr x (n * i) k) in
+      let order : x / 2 ^ k / 2 ^ (n * i) ≡ x / 2 ^ (n * i) / 2 ^ k =
+      shr-shr x k (n * i) ∙ ap (λ p. x / 2 ^ p) (omega arith) ∙ sym (shr-shr x (n * i) k) in
       let power : 2 ^ n ≡ 2 ^ (r + k + j) = ap (λ p. 2 ^ p) (omega arith) in
       let power2 : 2 ^ n ≡ 2 ^ (r + j + k) = ap (λ p. 2 ^ p) e in
       ap (λ p. x / 2 ^ k / 2 ^ (n * i) % p % 2 ^ j) power
       ∙ mod-mod-pow (x / 2 ^ k / 2 ^ (n * i)) (r + k) j
       ∙ ap (λ z. z % 2 ^ j) order
-      ∙ sym (ap (λ p. x / 2 ^ (n * i) % p / 2 ^ k % 2 ^ j) power2 ∙ ap (λ z. z % 2 ^ j) (field (x / 2 ^ (n * i)) (r + j) k) ∙ mod-mod-pow (x / 2 ^ (n * i) / 2 ^ k) r j)
+      ∙ sym (ap (λ p. x / 2 ^ (n * i) % p / 2 ^ k % 2 ^ j) power2
+      ∙ ap (λ z. z % 2 ^ j) (field (x / 2 ^ (n * i)) (r + j) k) ∙ mod-mod-pow (x / 2 ^ (n * i) / 2 ^ k) r j)
 
-  pub field-lanes : {x y : ℕ} {f : ℕ → ℕ} → Lanes n x f → (j k : ℕ) → j + k ≤ n → Lanes n y (λ _. 2 ^ j - 1) → Lanes n (bitAnd (x / 2 ^ k) y) (λ i. f i / 2 ^ k % 2 ^ j)
+  pub field-lanes : {x y : ℕ} {f : ℕ → ℕ} → Lanes n x f → (j k : ℕ) → j + k ≤ n → Lanes n y (λ _. 2 ^ j - 1)
+      → Lanes n (bitAnd (x / 2 ^ k) y) (λ i. f i / 2 ^ k % 2 ^ j)
   field-lanes {x} {y} {f} a j k e b =
       let low : x / 2 ^ k < 2 ^ 64 = omega (arith, shr-le x k, a .below) in
       same-lanes (and-lanes (own (x / 2 ^ k) low) b)
-      (λ i l. and-mask (element n (x / 2 ^ k) i) j ∙ narrow x j k (n - (j + k)) i (omega arith) ∙ ap (λ z. z / 2 ^ k % 2 ^ j) (a .at i l))
+      (λ i l. and-mask (element n (x / 2 ^ k) i) j ∙ narrow x j k (n - (j + k)) i (omega arith)
+      ∙ ap (λ z. z / 2 ^ k % 2 ^ j) (a .at i l))
+
+  pub shr-lanes : {x y : ℕ} {f : ℕ → ℕ} → Lanes n x f → (j k : ℕ) → n ≡ j + k → Lanes n y (λ _. 2 ^ j - 1)
+      → Lanes n (bitAnd (x / 2 ^ k) y) (λ i. f i / 2 ^ k)
+  shr-lanes {f = f} a j k e b =
+      same-lanes (field-lanes a j k (omega arith) b) (λ i l. shr-mod j k (rw e at (fits a i l)))
 
   -- every element of a word of ones is of ones
   ones-at : (i rest : ℕ) → 64 ≡ rest + n + n * i → element n (2 ^ 64 - 1) i ≡ 2 ^ n - 1
@@ -139,4 +137,9 @@ module _ {n : ℕ} (share : Shares n) where
       ∙ pow.low (2 ^ rest - 1) n (ones-lt n)
 
   pub ones-lanes : Lanes n (2 ^ 64 - 1) (λ _. 2 ^ n - 1)
-  ones-lanes = record { below = ones-lt 64; at = λ i l. ones-at i (64 - (n * i + n)) (let h = inside share i l in omega arith) }
+  ones-lanes =
+      record { below = ones-lt 64; at = λ i l. ones-at i (64 - (n * i + n)) (let h = inside share i l in omega arith) }
+
+-- a word is told by its elements
+pub one-word : {n : ℕ} → Shares n → {x y : ℕ} {f : ℕ → ℕ} → Lanes n x f → Lanes n y f → x ≡ y
+one-word share a b = built share a ∙ sym (built share b)

@@ -6,7 +6,6 @@ ghost use Rattle.element.specs.Value as value;
 ghost use Rattle.element.specs.Value.{top};
 ghost use Rattle.linear.specs.Sums as sums;
 ghost use Rattle.linear.specs.Order as order;
-ghost use Rattle.vectors.specs.Register.{element};
 ghost use Rattle.parallel.specs.Lanes.{Each1, Each2};
 use super::filled;
 use super::flipped;

@@ -3,8 +3,8 @@ ghost use Rattle.isa.specs.Widths.{bits};
 ghost use Rattle.linear.specs.Operations.{basicOf, absoluteOf, compareOf, additionOf, subtractionOf};
 ghost use Rattle.parallel.specs.Lanes.{Each2};
 use super::clipped;
+use super::compares;
 use super::means;
-use super::order;
 use super::wrapping;
 use element::Reading;
 use isa::Absolute;
@@ -20,10 +20,10 @@ pub fn basic(op: Basic, w: Width, s: u64, t: u64) -> u64
     match op {
         Basic::Addv => wrapping::addv(w, s, t),
         Basic::Subv => wrapping::subv(w, s, t),
-        Basic::MaxS => order::larger(w, Reading::Signed, s, t),
-        Basic::MaxU => order::larger(w, Reading::Unsigned, s, t),
-        Basic::MinS => order::smaller(w, Reading::Signed, s, t),
-        Basic::MinU => order::smaller(w, Reading::Unsigned, s, t),
+        Basic::MaxS => compares::larger(w, Reading::Signed, s, t),
+        Basic::MaxU => compares::larger(w, Reading::Unsigned, s, t),
+        Basic::MinS => compares::smaller(w, Reading::Signed, s, t),
+        Basic::MinU => compares::smaller(w, Reading::Unsigned, s, t),
     }
 }
 
@@ -40,11 +40,11 @@ pub fn compare(op: Compare, w: Width, s: u64, t: u64) -> u64
     ensures { λ r. ⌜ Each2 (bits w) r (compareOf op (bits w)) s t ⌝ }
 {
     match op {
-        Compare::Ceq => order::equal(w, s, t),
-        Compare::CltS => order::less(w, Reading::Signed, s, t),
-        Compare::CltU => order::less(w, Reading::Unsigned, s, t),
-        Compare::CleS => order::not_more(w, Reading::Signed, s, t),
-        Compare::CleU => order::not_more(w, Reading::Unsigned, s, t),
+        Compare::Ceq => compares::equal(w, s, t),
+        Compare::CltS => compares::less(w, Reading::Signed, s, t),
+        Compare::CltU => compares::less(w, Reading::Unsigned, s, t),
+        Compare::CleS => compares::not_more(w, Reading::Signed, s, t),
+        Compare::CleU => compares::not_more(w, Reading::Unsigned, s, t),
     }
 }
 

@@ -6,7 +6,6 @@ ghost use lib.Dec.{ltb};
 ghost use Rattle.isa.specs.Widths.{bits};
 ghost use Rattle.element.specs.Value.{top};
 ghost use Rattle.element.specs.Views as views;
-ghost use Rattle.vectors.specs.Register.{element};
 ghost use Rattle.parallel.specs.Lanes.{Each1, Each3, Lanes};
 use element::Reading;
 use element::count;
@@ -14,6 +13,7 @@ use element::ones;
 use isa::Width;
 
 mod clipped;
+mod compares;
 pub mod dispatch;
 mod means;
 pub mod order;
@@ -51,7 +51,7 @@ pub fn inverse(w: Width, x: u64) -> u64
 }
 
 // The bits below the top bit of every element.
-pub fn lows(w: Width) -> u64
+fn lows(w: Width) -> u64
     ensures { λ r. ⌜ Lanes (bits w) r (λ _. top (bits w) - 1) ⌝ }
 {
     inverse(w, tops(w))
@@ -75,7 +75,7 @@ pub fn viewed(w: Width, g: Reading, x: u64) -> u64
 }
 
 // Every element's top bit, as 0 or 1.
-pub fn signs(w: Width, x: u64) -> u64
+fn signs(w: Width, x: u64) -> u64
     ensures { λ r. ⌜ Each1 (bits w) r (λ a. a / top (bits w)) x ⌝ }
 {
     (x >> (count(w) - 1)) & units(w)
@@ -89,7 +89,7 @@ pub fn filled(w: Width, z: u64) -> u64
 }
 
 // The elements of yes where the top bit of z is clear, and those of no where it is set.
-pub fn picked(w: Width, z: u64, yes: u64, no: u64) -> u64
+fn picked(w: Width, z: u64, yes: u64, no: u64) -> u64
     ensures { λ r. ⌜ Each3 (bits w) r (λ a y n. cond (ltb a (top (bits w))) y n) z yes no ⌝ }
 {
     let m = filled(w, z);

@@ -9,6 +9,7 @@ use lib.Bits.{bitAnd}
 use lib.Dec.{eqb}
 use lib.Pow.{mod-pow-add, shr-shr}
 use Rattle.isa.specs.declared.Width.{Width}
+use Rattle.isa.specs.declared.Width.the-variants.{B, H, W, D}
 use Rattle.isa.specs.Widths.{bits}
 use Rattle.bits.specs.Places.{bitAt}
 use Rattle.bits.specs.Shifts.{sll}
@@ -21,15 +22,15 @@ use Rattle.parallel.proofs.Masked.{bit-times}
 use Rattle.parallel.proofs.Words.{own, same-lanes, field-lanes}
 use Rattle.parallel_bits.proofs.Amounts.{sll-none, sll-more}
 
-pub record Shift (n : ℕ) (act : ℕ → ℕ → ℕ) : Type 0 where
-  pub none : (a : ℕ) → a < 2 ^ n → act a 0 ≡ a
+pub record Shift (w : Width) (act : ℕ → ℕ → ℕ) : Type 0 where
+  pub none : (a : ℕ) → a < 2 ^ bits w → act a 0 ≡ a
   pub more : (a j k : ℕ) → act (act a j) k ≡ act a (j + k)
 
-pub to-left : (n : ℕ) → Shift n (sll n)
-to-left n = record { none = sll-none n; more = sll-more n }
+pub to-left : (w : Width) → Shift w (sll (bits w))
+to-left w = record { none = sll-none (bits w); more = sll-more (bits w) }
 
-pub to-right : (n : ℕ) → Shift n (λ a k. a / 2 ^ k)
-to-right n = record { none = λ a h. div-one a; more = shr-shr }
+pub to-right : (w : Width) → Shift w (λ a k. a / 2 ^ k)
+to-right w = record { none = λ a h. div-one a; more = shr-shr }
 
 -- r is s shifted by the bits of t's elements below bit j; and r is x shifted by bit j of them
 abbrev Done : ℕ → (ℕ → ℕ → ℕ) → ℕ → ℕ → ℕ → ℕ → Type 0
@@ -67,7 +68,7 @@ module _ (w : Width) where
       rw e (same-lanes (shares w) (bit-times w bit (λ i l. omega (arith, low i)))
       (λ i l. bit-mask (bitAt (element (bits w) t i) j) (2 ^ bits w - 1) (low i)))
 
-module _ (w : Width) {act : ℕ → ℕ → ℕ} (shift : Shift (bits w) act) (s t : ℕ) where
+module _ {w : Width} {act : ℕ → ℕ → ℕ} (shift : Shift w act) (s t : ℕ) where
   by-cases : (a b j : ℕ) → act a 0 ≡ a → b < 2 → cond (eqb b 0) a (act a (2 ^ j)) ≡ act a (b * 2 ^ j)
   by-cases a zero j e h = sym (ap (act a) (let z : 0 * 2 ^ j ≡ 0 = omega arith in z) ∙ e)
   by-cases a (suc zero) j e h = ap (act a) (omega arith)
@@ -107,16 +108,16 @@ module _ (w : Width) {act : ℕ → ℕ → ℕ} (shift : Shift (bits w) act) (s
       same-lanes (shares w) steps (λ i l. ap (λ m. act (element (bits w) s i) (element (bits w) t i % m)) (sym e))
 
   module _ {x : ℕ} (low : Done (bits w) act s t 3 x) where
-    pub bytes : bits w ≡ 8 → Each2 (bits w) x (λ a b. act a (b % bits w)) s t
-    bytes e = whole 3 e low
+    pub bytes : w ≡ B → Each2 (bits w) x (λ a b. act a (b % bits w)) s t
+    bytes e = whole 3 (ap bits e) low
 
-    pub halves : {r : ℕ} → bits w ≡ 16 → Step (bits w) act t 3 x r → Each2 (bits w) r (λ a b. act a (b % bits w)) s t
-    halves e a = whole 4 e (next 3 low a)
+    pub halves : {r : ℕ} → w ≡ H → Step (bits w) act t 3 x r → Each2 (bits w) r (λ a b. act a (b % bits w)) s t
+    halves e a = whole 4 (ap bits e) (next 3 low a)
 
-    pub words : {y r : ℕ} → bits w ≡ 32 → Step (bits w) act t 3 x y → Step (bits w) act t 4 y r
+    pub words : {y r : ℕ} → w ≡ W → Step (bits w) act t 3 x y → Step (bits w) act t 4 y r
         → Each2 (bits w) r (λ a b. act a (b % bits w)) s t
-    words e a b = whole 5 e (next 4 (next 3 low a) b)
+    words e a b = whole 5 (ap bits e) (next 4 (next 3 low a) b)
 
-    pub doubles : {y z r : ℕ} → bits w ≡ 64 → Step (bits w) act t 3 x y → Step (bits w) act t 4 y z
+    pub doubles : {y z r : ℕ} → w ≡ D → Step (bits w) act t 3 x y → Step (bits w) act t 4 y z
         → Step (bits w) act t 5 z r → Each2 (bits w) r (λ a b. act a (b % bits w)) s t
-    doubles e a b c = whole 6 e (next 5 (next 4 (next 3 low a) b) c)
+    doubles e a b c = whole 6 (ap bits e) (next 5 (next 4 (next 3 low a) b) c)

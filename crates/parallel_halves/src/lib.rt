@@ -9,7 +9,6 @@ ghost use Rattle.products.specs.Operations.{acrossOf};
 ghost use Rattle.vectors.specs.Register.{element};
 ghost use Rattle.parallel.specs.Lanes.{Each1, Each2, Lanes};
 use element::Reading;
-use element::count;
 use element::ones;
 use element::pow2;
 use isa::Across;

@@ -221,7 +221,7 @@ abbrev pub turns : (ℕ → ℕ) → (ℕ → ℕ) → ℕ → ℕ
 turns f g i = cond (eqb (i % 2) 0) (f (i / 2)) (g (i / 2))
 
 module _ {n : ℕ} (d : Doubles n) where
-  pub turns-lanes : {a b : ℕ} (f g : ℕ → ℕ) → Lanes (n + n) a f → Lanes (n + n) b g
+  turns-lanes : {a b : ℕ} (f g : ℕ → ℕ) → Lanes (n + n) a f → Lanes (n + n) b g
       → ((j : ℕ) → j < 64 / (n + n) → f j < 2 ^ n) → ((j : ℕ) → j < 64 / (n + n) → g j < 2 ^ n)
       → Lanes n (a + b * 2 ^ n) (turns f g)
   turns-lanes f g a b fs gs =
@@ -240,6 +240,16 @@ module _ {n : ℕ} (d : Doubles n) where
           let o0 : suc (j * 2) % 2 ≡ 1 = omega arith in
           let o1 : suc (j * 2) / 2 ≡ j = omega arith in
           rw (e0, e1, o0, o1) refl
+
+  -- as the code has it
+  pub interleaved-lanes : (a b : ℕ) {k : ℕ} → a < 2 ^ 64 → b < 2 ^ 64 → k ≡ n
+      → ((j : ℕ) → j < 64 / (n + n) → element (n + n) a j < 2 ^ n)
+      → ((j : ℕ) → j < 64 / (n + n) → element (n + n) b j < 2 ^ n)
+      → Lanes n (a + b * 2 ^ k % 2 ^ 64) (turns (element (n + n) a) (element (n + n) b))
+  interleaved-lanes a b ha hb e fs gs =
+      let all = turns-lanes (element (n + n) a) (element (n + n) b) (own (d .two) a ha) (own (d .two) b hb) fs gs in
+      let fits : b * 2 ^ n < 2 ^ 64 = omega (arith, all .below) in
+      rw (e, mod-eq-of-lt fits) all
 
   -- two half words
   pub halves-built : (f : ℕ → ℕ) {a b : ℕ} → a ≡ build n f (32 / n) → b ≡ build n (λ i. f (32 / n + i)) (32 / n)

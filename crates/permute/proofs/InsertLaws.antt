@@ -64,12 +64,12 @@ module _ {n : ℕ} (share : Shares n) where
     moved-back {k} {e} ek ee =
         ap₂ (λ a b. a * 2 ^ (b * i) % 2 ^ 64) ee ek ∙ mod-eq-of-lt (let h = old-fits in omega arith)
 
-    pub new-moved : {k y : ℕ} → k ≡ n → y ≡ x % 2 ^ n → y * 2 ^ (k * i) % 2 ^ 64 ≡ x % 2 ^ n * 2 ^ (n * i)
+    new-moved : {k y : ℕ} → k ≡ n → y ≡ x % 2 ^ n → y * 2 ^ (k * i) % 2 ^ 64 ≡ x % 2 ^ n * 2 ^ (n * i)
     new-moved {k} {y} ek ey =
         ap₂ (λ a b. a * 2 ^ (b * i) % 2 ^ 64) ey ek
         ∙ mod-eq-of-lt (only-lanes i (x % 2 ^ n) l (mod-lt x (pow-pos n)) .below)
 
-    pub put-lanes : Lanes n (d - element n d i * 2 ^ (n * i) + x % 2 ^ n * 2 ^ (n * i)) (withElement i x n d)
+    put-lanes : Lanes n (d - element n d i * 2 ^ (n * i) + x % 2 ^ n * 2 ^ (n * i)) (withElement i x n d)
     unfolding withElement
     put-lanes =
         let rest = minus-lanes share (own share d hd) (only-lanes i (element n d i) l (element-below n d i)) less in
@@ -80,6 +80,11 @@ module _ {n : ℕ} (share : Shares n) where
         (λ t e. rw (t, e) (omega (arith, mod-lt x (pow-pos n))))
         (λ t. rw t (omega (arith, element-below n d j)))))
         (λ j k. by-equal j i (λ t e. rw (t, e) (omega arith)) (λ t. rw t (omega arith)))
+
+    -- as the code has it
+    pub put-moved : {k e y : ℕ} → k ≡ n → e ≡ element n d i → y ≡ x % 2 ^ n
+        → Lanes n (d - e * 2 ^ (k * i) % 2 ^ 64 + y * 2 ^ (k * i) % 2 ^ 64) (withElement i x n d)
+    put-moved ek ee ey = rw (moved-back ek ee, new-moved ek ey) put-lanes
 
 -- a register with one element anew is its words
 module _ {n : ℕ} (share : Shares n) {d : Register} (hd : Words d) (i x : ℕ) where

@@ -13,7 +13,8 @@ returns c =
     let a = c .before .args in
     let share = shares (a .w) in
     let x = own share (a .x) (search needs) in
-    same-lanes share (xor-lanes share x (c .tops .ensures)) (λ i l. xor-top (bits (a .w)) (size (a .w)) (fits share x i l))
+    same-lanes share (xor-lanes share x (c .tops .ensures))
+    (λ i l. xor-top (bits (a .w)) (size (a .w)) (fits share x i l))
 
 pub flipped-spec : {M : Type 1} → statement M
 flipped-spec = tie.close (tie.spec (λ c κs. search needs) returns)

@@ -1,8 +1,6 @@
 -- `parallel::inverse` meets its contract. The difference from all ones has no borrow.
 use borrow.Author.Needs.{needs}
 use native.Mathlib.Omega.{arith}
-use Rattle.element.proofs.Widths.{size}
-use Rattle.isa.specs.Widths.{bits}
 use Rattle.vectors.proofs.Sizes.{shares}
 use Rattle.parallel.proofs.Words.{own, fits, ones-lanes, minus-lanes}
 use Rattle.parallel.proofs.inverse.Statement.{statement}

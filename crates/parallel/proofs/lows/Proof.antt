@@ -2,7 +2,6 @@
 use borrow.Author.Needs.{needs}
 use native.Mathlib.Omega.{arith}
 use Rattle.element.proofs.Widths.{size}
-use Rattle.isa.specs.Widths.{bits}
 use Rattle.vectors.proofs.Sizes.{shares}
 use Rattle.parallel.proofs.Words.{same-lanes}
 use Rattle.parallel.proofs.lows.Statement.{statement}

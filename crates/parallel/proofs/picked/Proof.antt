@@ -1,6 +1,5 @@
 -- `parallel::picked` meets its contract. By the mask and its inverse.
 use borrow.Author.Needs.{needs}
-use native.Mathlib.Omega.{arith}
 use Rattle.element.proofs.Widths.{size}
 use Rattle.isa.specs.Widths.{bits}
 use Rattle.vectors.proofs.Sizes.{shares}

@@ -1,30 +1,21 @@
 -- `parallel::units` meets its contract. At each width the literal is the number built of ones.
 use borrow.Author.Needs.{needs}
+use mathlib.Core.Path.{refl}
+use Prim.Native.Nat.{_^_, _<_}
 use native.Mathlib.Omega.{arith}
-use mathlib.Core.Path.{_≡_, refl, sym, ap, ap₂, _∙_}
+use Rattle.isa.specs.declared.Width.{Width}
+use Rattle.isa.specs.Widths.{bits}
 use Rattle.element.proofs.Widths.{size}
-use Rattle.vectors.proofs.Sizes.{shares}
-use Rattle.parallel.proofs.Words.{made}
-use Rattle.isa.specs.declared.Width.the-variants.{B, H, W, D}
 use Rattle.vectors.specs.Register.{build}
+use Rattle.parallel.proofs.Named.{all-at}
 use Rattle.parallel.proofs.units.Statement.{statement}
 use Rattle.parallel.proofs.units.Tie as tie
 
-returns : tie.Need-returns
-unfolding build
-returns c = rw (c .enum-told .given .1) (made (shares B) _ refl (λ i l. omega (arith, size B)))
-
-returns-2 : tie.Need-returns-2
-unfolding build
-returns-2 c = rw (c .enum-told2 .given .1) (made (shares H) _ refl (λ i l. omega (arith, size H)))
-
-returns-3 : tie.Need-returns-3
-unfolding build
-returns-3 c = rw (c .enum-told3 .given .1) (made (shares W) _ refl (λ i l. omega (arith, size W)))
-
-returns-4 : tie.Need-returns-4
-unfolding build
-returns-4 c = rw (c .enum-told4 .given .1) (made (shares D) _ refl (λ i l. omega (arith, size D)))
+room : (w : Width) → 1 < 2 ^ bits w
+room w = omega (arith, size w)
 
 pub units-spec : {M : Type 1} → statement M
-units-spec = tie.close (tie.spec (λ c. search needs) (λ c. search needs) (λ c. search needs) (λ c. search needs) returns returns-2 returns-3 returns-4)
+unfolding build
+units-spec = tie.close (tie.spec (λ c. search needs) (λ c. search needs) (λ c. search needs) (λ c. search needs)
+    (λ c. all-at room (c .enum-told .given .1) refl) (λ c. all-at room (c .enum-told2 .given .1) refl)
+    (λ c. all-at room (c .enum-told3 .given .1) refl) (λ c. all-at room (c .enum-told4 .given .1) refl))

@@ -1,7 +1,5 @@
 -- `parallel::viewed` meets its contract. Each arm knows the reading.
 use borrow.Author.Needs.{needs}
-use Rattle.element.proofs.Widths.{size}
-use Rattle.isa.specs.Widths.{bits}
 use Rattle.vectors.proofs.Sizes.{shares}
 use Rattle.parallel.proofs.Words.{own}
 use Rattle.parallel.proofs.viewed.Statement.{statement}

@@ -17,7 +17,9 @@ returns : tie.Need-returns
 returns c =
     let a = c .before .before .args in
     let share = shares (a .w) in
-    rw (c .before .part .ensures) (shr-lanes share (own share (a .x) (search needs)) (bits (a .w) / 2) (bits (a .w) / 2) (halved (a .w)) (c .lower .ensures))
+    rw (c .before .part .ensures)
+    (shr-lanes share (own share (a .x) (search needs)) (bits (a .w) / 2) (bits (a .w) / 2) (halved (a .w))
+    (c .lower .ensures))
 
 pub high-half-spec : {M : Type 1} → statement M
 high-half-spec = tie.close (tie.spec (λ c κs. search needs) shr-result (λ c κs. search needs) returns)

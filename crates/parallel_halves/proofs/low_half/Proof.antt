@@ -13,7 +13,8 @@ returns : tie.Need-returns
 returns c =
     let a = c .before .args in
     let share = shares (a .w) in
-    same-lanes share (and-lanes share (own share (a .x) (search needs)) (c .lower .ensures)) (λ i l. and-mask (element (bits (a .w)) (a .x) i) (bits (a .w) / 2))
+    same-lanes share (and-lanes share (own share (a .x) (search needs)) (c .lower .ensures))
+    (λ i l. and-mask (element (bits (a .w)) (a .x) i) (bits (a .w) / 2))
 
 pub low-half-spec : {M : Type 1} → statement M
 low-half-spec = tie.close (tie.spec (λ c κs. search needs) returns)

@@ -20,7 +20,9 @@ returns : tie.Need-returns
 returns c =
     let a = c .before .before .args in
     let share = shares (a .w) in
-    rw (c .before .part .ensures) (field-lanes share (own share (a .x) (search needs)) 1 (bits (a .w) / 2 - 1) (omega (arith, half-size (a .w) .part, halved (a .w))) (c .units .ensures))
+    rw (c .before .part .ensures)
+    (field-lanes share (own share (a .x) (search needs)) 1 (bits (a .w) / 2 - 1)
+    (omega (arith, half-size (a .w) .part, halved (a .w))) (c .units .ensures))
 
 pub negative-spec : {M : Type 1} → statement M
 negative-spec = tie.close (tie.spec (λ c κs. search needs) sub-result shr-result (λ c κs. search needs) returns)

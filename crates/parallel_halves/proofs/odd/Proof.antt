@@ -7,9 +7,8 @@ use Rattle.parallel.proofs.Words.{own, fits, same-lanes}
 use mathlib.Core.Path.{ap}
 use Prim.Native.Nat.{_/_}
 use Rattle.element.specs.Value.{value, wrap}
-use Rattle.products.proofs.Halves.{odd-below, even-below}
-use Rattle.element.proofs.Widths.{size, half-size}
-use Rattle.vectors.specs.Register.{element}
+use Rattle.products.proofs.Halves.{odd-below}
+use Rattle.element.proofs.Widths.{half-size}
 use Rattle.parallel_halves.proofs.odd.Statement.{statement}
 use Rattle.parallel_halves.proofs.odd.Tie as tie
 
@@ -23,7 +22,8 @@ extended-requires c κs =
 returns : tie.Need-returns
 returns c =
     let a = c .before .before .args in
-    same-lanes (shares (a .w)) (c .extended .ensures) (λ i l. ap (λ y. wrap (bits (a .w)) (value (a .g) (bits (a .w) / 2) y)) (c .before .high-half .ensures .at i l))
+    same-lanes (shares (a .w)) (c .extended .ensures)
+    (λ i l. ap (λ y. wrap (bits (a .w)) (value (a .g) (bits (a .w) / 2) y)) (c .before .high-half .ensures .at i l))
 
 pub odd-spec : {M : Type 1} → statement M
 odd-spec = tie.close (tie.spec (λ c κs. search needs) extended-requires returns)

@@ -17,4 +17,6 @@ returns-4 : tie.Need-returns-4
 returns-4 c = rw (c .enum-told4 .given .1) refl
 
 pub part-spec : {M : Type 1} → statement M
-part-spec = tie.close (tie.spec (λ c. search needs) (λ c. search needs) (λ c. search needs) (λ c. search needs) returns returns-2 returns-3 returns-4)
+part-spec = tie.close (tie.spec
+    (λ c. search needs) (λ c. search needs) (λ c. search needs) (λ c. search needs)
+    returns returns-2 returns-3 returns-4)

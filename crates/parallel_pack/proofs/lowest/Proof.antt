@@ -9,19 +9,10 @@ use Rattle.parallel_pack.proofs.Places.{quarter-fits}
 use Rattle.parallel_pack.proofs.lowest.Statement.{statement}
 use Rattle.parallel_pack.proofs.lowest.Tie as tie
 
-pow2-requires : tie.Need-pow2-requires
-pow2-requires c κs = let a = c .before .args in omega (arith, c .quarter .ensures, quarter-fits (a .v), size (a .v))
-
-sub-spread-word : tie.Need-sub-spread-word
-sub-spread-word c = rw (c .pow2 .ensures) (pow-pos _)
-
-spread-word-requires : tie.Need-spread-word-requires
-spread-word-requires c κs =
-    let a = c .before .before .args in
-    rw (c .pow2 .ensures, c .before .quarter .ensures) (omega (arith, quarter-fits (a .v), pow-pos (bits (a .v) / 4)))
-
-returns : tie.Need-returns
-returns c = rw (c .before .before .quarter .ensures) at (rw (c .before .pow2 .ensures) at (c .spread-word .ensures))
-
 pub lowest-spec : {M : Type 1} → statement M
-lowest-spec = tie.close (tie.spec (λ c κs. search needs) pow2-requires sub-spread-word spread-word-requires returns)
+lowest-spec = tie.close (tie.spec (λ c κs. search needs)
+    (λ c κs. let a = c .before .args in omega (arith, c .quarter .ensures, quarter-fits (a .v), size (a .v)))
+    (λ c. rw (c .pow2 .ensures) (pow-pos _))
+    (λ c κs. let v = c .before .before .args .v in
+    rw (c .pow2 .ensures, c .before .quarter .ensures) (omega (arith, quarter-fits v, pow-pos (bits v / 4))))
+    (λ c. rw (c .before .before .quarter .ensures) at (rw (c .before .pow2 .ensures) at (c .spread-word .ensures))))

@@ -4,7 +4,7 @@ use Rattle.element.proofs.Widths.{size}
 use Rattle.isa.specs.Widths.{bits}
 use Rattle.vectors.proofs.Sizes.{shares}
 use Rattle.parallel.proofs.Words.{own, fits, same-lanes}
-use mathlib.Core.Path.{_≡_, sym, ap, ap₂, _∙_}
+use mathlib.Core.Path.{ap, ap₂, _∙_}
 use mathlib.Core.Bool.{cond}
 use lib.Dec.{ltb}
 use Rattle.element.specs.declared.Reading.the-variants.{Unsigned}
@@ -24,8 +24,10 @@ returns c =
     let t = own share (a .t) (search needs) in
     same-lanes share (c .picked .ensures)
     (λ i l. ap₂ (cond (ltb (element n (a .t) i) (top n))) (c .before .before .before .subs-u .ensures .at i l)
-    (c .before .adds-u .ensures .at i l ∙ ap (adds Unsigned n (element n (a .s) i)) (c .before .before .magnitude .ensures .at i l))
+    (c .before .adds-u .ensures .at i l
+    ∙ ap (adds Unsigned n (element n (a .s) i)) (c .before .before .magnitude .ensures .at i l))
     ∙ subsus-lane n (size (a .w)) (fits share s i l) (fits share t i l))
 
 pub subsus-u-spec : {M : Type 1} → statement M
-subsus-u-spec = tie.close (tie.spec (λ c κs. search needs) (λ c κs. search needs) (λ c κs. search needs) (λ c κs. search needs) returns)
+subsus-u-spec = tie.close (tie.spec
+    (λ c κs. search needs) (λ c κs. search needs) (λ c κs. search needs) (λ c κs. search needs) returns)

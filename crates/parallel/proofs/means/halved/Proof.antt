@@ -13,7 +13,8 @@ returns : tie.Need-returns
 returns c =
     let a = c .before .args in
     let share = shares (a .w) in
-    shr-lanes share (own share (a .x) (search needs)) (bits (a .w) - 1) 1 (omega (arith, size (a .w))) (c .lows .ensures)
+    shr-lanes share (own share (a .x) (search needs)) (bits (a .w) - 1) 1 (omega (arith, size (a .w)))
+    (c .lows .ensures)
 
 pub halved-spec : {M : Type 1} → statement M
 halved-spec = tie.close (tie.spec (λ c κs. search needs) returns)

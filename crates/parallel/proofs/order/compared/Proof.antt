@@ -14,21 +14,25 @@ use Rattle.parallel.proofs.order.compared.Statement.{statement}
 use Rattle.parallel.proofs.order.compared.Tie as tie
 
 sub-gap : tie.Need-sub-gap
-sub-gap c =
-    let a = c .before .before .before .args in
-    let own = own (shares (a .w)) in
-    omega (arith, gap-fits (a .w) (own (a .x) (search needs)) (own (a .y) (search needs)) (c .before .tops .ensures) (c .lows .ensures))
+sub-gap c = let a = c .before .before .before .args in let own = own (shares (a .w)) in
+    omega (
+      arith,
+      gap-fits (a .w) (own (a .x) (search needs)) (own (a .y) (search needs)) (c .before .tops .ensures)
+          (c .lows .ensures),
+    )
 
 returns : tie.Need-returns
-returns c =
-    let a = c .before .before .before .args in
-    let share = shares (a .w) in
+returns c = let a = c .before .before .before .args in let share = shares (a .w) in
     let x = own share (a .x) (search needs) in
     let y = own share (a .y) (search needs) in
     let n = c .before .before .inverse .ensures in
     let gap = gap-lanes (a .w) x y (c .before .tops .ensures) (c .lows .ensures) in
     let all = or-lanes share (and-lanes share x n) (and-lanes share (or-lanes share x n) gap) in
-    record { answer = λ i l. ap (λ z. ltb z (top (bits (a .w)))) (all .at i l) ∙ compared-lane (bits (a .w)) (size (a .w)) (fits share x i l) (fits share y i l) }
+    record {
+      answer = λ i l. ap (λ z. ltb z (top (bits (a .w)))) (all .at i l)
+          ∙ compared-lane (bits (a .w)) (size (a .w)) (fits share x i l) (fits share y i l);
+    }
 
 pub compared-spec : {M : Type 1} → statement M
-compared-spec = tie.close (tie.spec (λ c κs. search needs) (λ c κs. search needs) (λ c κs. search needs) sub-gap returns)
+compared-spec = tie.close (tie.spec
+    (λ c κs. search needs) (λ c κs. search needs) (λ c κs. search needs) sub-gap returns)

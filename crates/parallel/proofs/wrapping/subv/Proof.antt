@@ -6,12 +6,10 @@ use Rattle.parallel.proofs.wrapping.subv.Statement.{statement}
 use Rattle.parallel.proofs.wrapping.subv.Tie as tie
 
 returns : tie.Need-returns
-returns c =
-    let told = c .before in
-    let a = told .before .before .args in
+returns c = let told = c .before in
     let e = rw (told .enum-told .given .1) at (c .subv .ensures) in
     rw (told .enum-told .given .1) (one-lane (subv 64) (search needs) (search needs) (search needs) e)
 
 pub subv-spec : {M : Type 1} → statement M
-subv-spec =
-    tie.close (tie.spec (λ c. search needs) (λ c κs. search needs) (λ c κs. search needs) returns (λ c. c .difference .ensures))
+subv-spec = tie.close (tie.spec
+    (λ c. search needs) (λ c κs. search needs) (λ c κs. search needs) returns (λ c. c .difference .ensures))

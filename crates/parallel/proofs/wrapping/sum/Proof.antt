@@ -22,7 +22,9 @@ returns c =
     let share = shares (a .w) in
     let s = own share (a .s) (search needs) in
     let t = own share (a .t) (search needs) in
-    same-lanes share (xor-lanes share (low-sum (a .w) s t (c .before .lows .ensures)) (and-lanes share (xor-lanes share s t) (c .tops .ensures)))
+    same-lanes share
+    (xor-lanes share (low-sum (a .w) s t (c .before .lows .ensures))
+    (and-lanes share (xor-lanes share s t) (c .tops .ensures)))
     (λ i l. addv-lane (bits (a .w)) (size (a .w)) (fits share s i l) (fits share t i l))
 
 pub sum-spec : {M : Type 1} → statement M

@@ -1,53 +1,16 @@
 -- `parallel_products::division::quotients` meets its contract. The loop goes from the top element down (Turns).
 use borrow.Author.Needs.{needs}
-use Prim.Native.Nat.{_/_}
 use native.Mathlib.Omega.{arith}
-use mathlib.Core.Path.{_≡_, ap₂, _∙_}
 use Rattle.isa.specs.Widths.{bits}
 use Rattle.products.specs.Products.{quotient}
 use Rattle.products.proofs.Below.{quotient-below}
-use Rattle.vectors.specs.Register.{element}
-use Rattle.vectors.proofs.ElementLaws.{Built, built-none}
-use Rattle.vectors.proofs.Sizes.{shares}
-use Rattle.parallel.proofs.Turns.{turn-fits, turn-more, turns-done}
+use Rattle.parallel.proofs.Turns.{Turns2, start2, fits2, more2, done2}
 use Rattle.parallel_products.proofs.division.quotients.Statement.{statement}
 use Rattle.parallel_products.proofs.division.quotients.Tie as tie
 
-abbrev Inv-loop : tie.InvT-loop
-Inv-loop w g s t out₀ i₀ out i =
-    Built (bits w) (λ j. quotient g (bits w) (element (bits w) s j) (element (bits w) t j))
-    (64 / bits w) out i
-
-abbrev μ-loop : tie.MeasureT-loop
-μ-loop w g s t out₀ i₀ out i = i
-
-loop-holds : tie.Need-loop-holds Inv-loop μ-loop
-loop-holds c = rw (c .per-word .ensures) (built-none _ _ _)
-
-joined-requires : tie.Need-joined-requires Inv-loop μ-loop
-joined-requires c κs =
-    let test = c .before .before .before in
-    let a = test .before .before .before .args in
-    turn-fits (test .before .loop .inv) (test .loop-test .taken)
-    (c .quotient .ensures ∙ ap₂ (quotient (a .g) (bits (a .w))) (c .before .before .in-word .ensures .is) (c .before .in-word2 .ensures .is))
-    (shares (a .w)) (λ j. quotient-below (bits (a .w)) _ _ (a .g))
-
-loop-again : tie.Need-loop-again Inv-loop μ-loop
-loop-again c =
-    let p = c .before in
-    let test = p .before .before .before in
-    let a = test .before .before .before .args in
-    turn-more (test .before .loop .inv) (test .loop-test .taken)
-    (p .quotient .ensures ∙ ap₂ (quotient (a .g) (bits (a .w))) (p .before .before .in-word .ensures .is) (p .before .in-word2 .ensures .is))
-    (c .joined .ensures)
-
-returns : tie.Need-returns Inv-loop μ-loop
-returns c =
-    let a = c .before .before .before .args in
-    turns-done (c .before .loop .inv) (c .loop-test .left) (shares (a .w)) (λ j. quotient-below (bits (a .w)) _ _ (a .g))
-
 pub quotients-spec : {M : Type 1} → statement M
-quotients-spec =
-    tie.close (tie.spec Inv-loop μ-loop
-    (λ c κs. search needs) loop-holds (λ c. omega arith) (λ c κs. omega arith) (λ c κs. omega arith)
-    (λ c κs. record { first = c .before .in-word .ensures .below; second = c .in-word2 .ensures .below }) joined-requires (λ c. omega arith) loop-again returns)
+quotients-spec = tie.close (tie.spec (λ w g s t out₀ i₀ out i. Turns2 (bits w) (quotient g (bits w)) s t out i)
+    (λ w g s t out₀ i₀ out i. i) (λ c κs. search needs)
+    (λ c. start2 (c .before .args .w) (λ x y. quotient-below _ x y _) (c .per-word .ensures)) (λ c. omega arith)
+    (λ c κs. omega arith) (λ c κs. omega arith) (λ c κs. search needs) (λ c κs. search (needs, fits2))
+    (λ c. omega arith) (λ c. search (needs, more2)) (λ c. search (needs, done2)))

@@ -1,6 +1,6 @@
 -- `parallel_products::dot::dotp` meets its contract. The ring view.
 use borrow.Author.Needs.{needs}
-use mathlib.Core.Path.{_≡_, sym, ap, ap₂, _∙_}
+use mathlib.Core.Path.{sym, ap₂, _∙_}
 use Rattle.isa.specs.Widths.{bits}
 use Rattle.vectors.specs.Register.{element}
 use Rattle.vectors.proofs.Sizes.{shares}
@@ -19,11 +19,13 @@ returns c =
     let n = bits (a .w) in
     same-lanes (shares (a .w)) (c .addv .ensures)
     (λ i l. ap₂ (addv n)
-    (q .mulv .ensures .at i l ∙ ap₂ (mulv n) (q .before .before .odd .ensures .at i l) (q .before .odd2 .ensures .at i l))
-    (p .mulv2 .ensures .at i l ∙ ap₂ (mulv n) (p .before .before .even .ensures .at i l) (p .before .even2 .ensures .at i l))
+    (q .mulv .ensures .at i l
+    ∙ ap₂ (mulv n) (q .before .before .odd .ensures .at i l) (q .before .odd2 .ensures .at i l))
+    (p .mulv2 .ensures .at i l
+    ∙ ap₂ (mulv n) (p .before .before .even .ensures .at i l) (p .before .even2 .ensures .at i l))
     ∙ sym (dotp-form (a .g) n 0 (element n (a .s) i) (element n (a .t) i)))
 
 pub dotp-spec : {M : Type 1} → statement M
-dotp-spec =
-    tie.close (tie.spec (λ c κs. search needs) (λ c κs. search needs) (λ c κs. search needs) (λ c κs. search needs) (λ c κs. search needs)
-    (λ c κs. search needs) (λ c κs. search needs) returns)
+dotp-spec = tie.close (tie.spec
+    (λ c κs. search needs) (λ c κs. search needs) (λ c κs. search needs) (λ c κs. search needs)
+    (λ c κs. search needs) (λ c κs. search needs) (λ c κs. search needs) returns)

@@ -1,60 +1,17 @@
 -- `parallel_products::product::added` meets its contract. The loop goes from the top element down (Turns).
 use borrow.Author.Needs.{needs}
-use Prim.Native.Nat.{_/_}
 use native.Mathlib.Omega.{arith}
-use mathlib.Core.Path.{_≡_, ap, ap₂, _∙_}
 use Rattle.isa.specs.Widths.{bits}
 use Rattle.isa.specs.declared.Product.the-variants.{Maddv}
 use Rattle.products.specs.Products.{maddv}
 use Rattle.products.proofs.Below.{product-below}
-use Rattle.vectors.specs.Register.{element}
-use Rattle.vectors.proofs.ElementLaws.{Built, built-none}
-use Rattle.vectors.proofs.Sizes.{shares}
-use Rattle.parallel.proofs.Turns.{turn-fits, turn-more, turns-done}
+use Rattle.parallel.proofs.Turns.{Turns3, start3, fits3, more3, done3}
 use Rattle.parallel_products.proofs.product.added.Statement.{statement}
 use Rattle.parallel_products.proofs.product.added.Tie as tie
 
-abbrev Inv-loop : tie.InvT-loop
-Inv-loop w d s t out₀ i₀ out i =
-    Built (bits w) (λ j. maddv (bits w) (element (bits w) d j) (element (bits w) s j) (element (bits w) t j))
-    (64 / bits w) out i
-
-abbrev μ-loop : tie.MeasureT-loop
-μ-loop w d s t out₀ i₀ out i = i
-
-loop-holds : tie.Need-loop-holds Inv-loop μ-loop
-loop-holds c = rw (c .per-word .ensures) (built-none _ _ _)
-
-joined-requires : tie.Need-joined-requires Inv-loop μ-loop
-joined-requires c κs =
-    let test = c .before .before .before .before in
-    let a = test .before .before .before .args in
-    turn-fits (test .before .loop .inv) (test .loop-test .taken)
-    (c .maddv .ensures
-    ∙ ap₂ (λ x y. maddv (bits (a .w)) x y (c .before .in-word3 .result)) (c .before .before .before .in-word .ensures .is)
-    (c .before .before .in-word2 .ensures .is)
-    ∙ ap (maddv (bits (a .w)) _ _) (c .before .in-word3 .ensures .is))
-    (shares (a .w)) (λ j. product-below (bits (a .w)) _ _ _ Maddv)
-
-loop-again : tie.Need-loop-again Inv-loop μ-loop
-loop-again c =
-    let p = c .before in
-    let test = p .before .before .before .before in
-    let a = test .before .before .before .args in
-    turn-more (test .before .loop .inv) (test .loop-test .taken)
-    (p .maddv .ensures
-    ∙ ap₂ (λ x y. maddv (bits (a .w)) x y (p .before .in-word3 .result)) (p .before .before .before .in-word .ensures .is)
-    (p .before .before .in-word2 .ensures .is)
-    ∙ ap (maddv (bits (a .w)) _ _) (p .before .in-word3 .ensures .is))
-    (c .joined .ensures)
-
-returns : tie.Need-returns Inv-loop μ-loop
-returns c =
-    let a = c .before .before .before .args in
-    turns-done (c .before .loop .inv) (c .loop-test .left) (shares (a .w)) (λ j. product-below (bits (a .w)) _ _ _ Maddv)
-
 pub added-spec : {M : Type 1} → statement M
-added-spec =
-    tie.close (tie.spec Inv-loop μ-loop
-    (λ c κs. search needs) loop-holds (λ c. omega arith) (λ c κs. omega arith) (λ c κs. omega arith) (λ c κs. omega arith)
-    (λ c κs. search needs) joined-requires (λ c. omega arith) loop-again returns)
+added-spec = tie.close (tie.spec (λ w d s t _ _. Turns3 (bits w) (maddv (bits w)) d s t) (λ w d s t _ _ _ i. i)
+    (λ c κs. search needs) (λ c. start3 (c .before .args .w) (λ x y z. product-below _ _ _ _ Maddv) (search needs))
+    (λ c. omega arith) (λ c κs. omega arith) (λ c κs. omega arith) (λ c κs. omega arith) (λ c κs. search needs)
+    (λ c κs. search (fits3 (c .before .before .before .before .before .loop .inv))) (λ c. omega arith)
+    (λ c. search (more3 (c .before .before .before .before .before .before .loop .inv))) (λ c. search (needs, done3)))

@@ -3,7 +3,7 @@ use borrow.Author.Needs.{needs}
 use native.Mathlib.Omega.{arith}
 use Rattle.element.proofs.Widths.{size}
 use Rattle.vectors.proofs.Sizes.{shares, inside}
-use Rattle.permute.proofs.InsertLaws.{old-fits, moved-back, new-moved, put-lanes}
+use Rattle.permute.proofs.InsertLaws.{old-fits, moved-back, put-moved}
 use Rattle.permute.proofs.inserts.put.Statement.{statement}
 use Rattle.permute.proofs.inserts.put.Tie as tie
 
@@ -35,29 +35,17 @@ shl-result c =
 
 add-result : tie.Need-add-result
 add-result c =
-    let counted = c .before .before in
-    let top = counted .before in
+    let top = c .before .before .before in
     let a = top .args in
-    let share = shares (a .w) in
-    rw (
-      moved-back share (a .d) (a .i) (a .x) (search needs) (top .pre) (counted .count .ensures)
-          (c .before .in-word .ensures .is),
-      new-moved share (a .d) (a .i) (a .x) (search needs) (top .pre) (counted .count .ensures) (c .low .ensures),
-    )
-    (omega (arith, put-lanes share (a .d) (a .i) (a .x) (search needs) (top .pre) .below))
+    let h = put-moved (shares (a .w)) (a .d) (a .i) (a .x) (search needs) (top .pre) (c .before .before .count .ensures)
+    (c .before .in-word .ensures .is) (c .low .ensures) .below in omega arith
 
 returns : tie.Need-returns
 returns c =
-    let counted = c .before .before in
-    let top = counted .before in
+    let top = c .before .before .before in
     let a = top .args in
-    let share = shares (a .w) in
-    rw (
-      moved-back share (a .d) (a .i) (a .x) (search needs) (top .pre) (counted .count .ensures)
-          (c .before .in-word .ensures .is),
-      new-moved share (a .d) (a .i) (a .x) (search needs) (top .pre) (counted .count .ensures) (c .low .ensures),
-    )
-    (put-lanes share (a .d) (a .i) (a .x) (search needs) (top .pre))
+    put-moved (shares (a .w)) (a .d) (a .i) (a .x) (search needs) (top .pre) (c .before .before .count .ensures)
+    (c .before .in-word .ensures .is) (c .low .ensures)
 
 pub put-spec : {M : Type 1} → statement M
 put-spec =
