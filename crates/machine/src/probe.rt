@@ -1,8 +1,9 @@
 // How the next step would end. It is done to scratch memory, so that nothing lent is changed; the general registers are
-// enough there, since an outcome depends on no vector register and on no byte of a window. It is done by `one_turn`, so
+// enough there, since an outcome depends on no vector register and on no byte of a window. It is done by `turns`, so
 // that the reader and the plans have one caller: with a second they are compiled apart, and every step is slower.
 use crate::step::Outcome;
-use crate::turns::one_turn;
+use crate::turns::as_step;
+use crate::turns::turns;
 use state::board::Board;
 use state::control::Control;
 use state::stops::Stop;
@@ -32,7 +33,8 @@ fn probe(board: Board, program: &[u8], table: &[u8], generals: &[u8], c: Control
     let mut g = [0u8; 256];
     let mut w = [0u8; 0];
     copy(&mut g, generals);
-    let s = one_turn(board, program, table, &mut v, &mut g, &mut w, c);
+    let e = turns(board, program, table, &mut v, &mut g, &mut w, c, 1);
+    let s = as_step(e);
     s.outcome
 }
 

@@ -1,5 +1,6 @@
 // One step on lent memory, with its set-up limits.
-use crate::turns::one_turn;
+use crate::turns::as_step;
+use crate::turns::turns;
 use state::board::Board;
 use state::control::Control;
 use state::setup;
@@ -59,7 +60,10 @@ pub fn step(
     ensures { λ r. ⌜ WholeIs (wholeStep (now (program .entry)) (env board (now (table .entry))) (machine (now (vectors .entry)) (now (generals .entry)) (now (work .entry)) c)) r (now (vectors .exit)) (now (generals .exit)) (now (work .exit)) ⌝ }
 {
     match setup::check(board, program, table, vectors, generals, work, c) {
-        Setup::Accepted => ran(one_turn(board, program, table, vectors, generals, work, c)),
+        Setup::Accepted => {
+            let e = turns(board, program, table, vectors, generals, work, c, 1);
+            ran(as_step(e))
+        }
         Setup::Refused(r) => Answered {
             answer: Answer::Refused(r),
             control: c,

@@ -11,7 +11,6 @@ ghost use mathlib.Core.Path.{_≡_};
 ghost use lib.ListN.{length};
 ghost use Rattle.state.specs.Machine.{env, machine};
 ghost use Rattle.machine.specs.Run.{runs, RunIs, steppedAs};
-ghost use Rattle.machine.specs.Step.{stepOf, StepIs};
 
 // Steps until one stops or the budget is spent, for a set-up that was accepted.
 pub fn turns(
@@ -63,7 +62,7 @@ pub fn turns(
 }
 
 // A run of one instruction as a step.
-fn as_step(e: Ended) -> Stepped
+pub fn as_step(e: Ended) -> Stepped
     ensures { λ r. ⌜ r ≡ steppedAs e ⌝ }
 {
     let control = e.control;
@@ -82,22 +81,4 @@ fn as_step(e: Ended) -> Stepped
             control,
         },
     }
-}
-
-// One step of a set-up that was accepted.
-pub fn one_turn(
-    board: Board,
-    program: &[u8],
-    table: &[u8],
-    vectors: &mut [u8],
-    generals: &mut [u8],
-    work: &mut [u8],
-    c: Control,
-) -> Stepped
-    requires { ⌜ (length (now vectors) ≡ 512) × (length (now generals) ≡ 256) ⌝ }
-    ensures { λ r. ⌜ StepIs (stepOf (now (program .entry)) (env board (now (table .entry)))
-        (machine (now (vectors .entry)) (now (generals .entry)) (now (work .entry)) c))
-        r (now (vectors .exit)) (now (generals .exit)) (now (work .exit)) ⌝ }
-{
-    as_step(turns(board, program, table, vectors, generals, work, c, 1))
 }

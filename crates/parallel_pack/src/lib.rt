@@ -18,12 +18,7 @@ use parallel_bits::spread_word;
 fn quarter(v: Width) -> u64
     ensures { λ r. ⌜ r ≡ bits v / 4 ⌝ }
 {
-    match v {
-        Width::B => 2,
-        Width::H => 4,
-        Width::W => 8,
-        Width::D => 16,
-    }
+    count(v) / 4
 }
 
 // Ones in the lowest quarter of every element.

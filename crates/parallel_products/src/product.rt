@@ -43,11 +43,8 @@ fn subtracted(w: Width, d: u64, s: u64, t: u64) -> u64
     let mut i = per_word(w);
     while 0 < i {
         i -= 1;
-        out = joined(
-            w,
-            out,
-            product::msubv(w, in_word(w, d, i), in_word(w, s, i), in_word(w, t, i)),
-        );
+        let e = product::msubv(w, in_word(w, d, i), in_word(w, s, i), in_word(w, t, i));
+        out = joined(w, out, e);
     }
     out
 }

@@ -61,8 +61,10 @@ pub fn element(op: Indexed, df: Width, wd: Vreg, ws: Vreg, n: u8, vectors: &[u8]
         (registerAt (now (vectors .entry)) ws) n) ⌝ }
 {
     let d = read_register(vectors, wd);
-    let s = read_register(vectors, ws);
-    Plan::Vector(wd, forms::indexed(op, df, d, s, n as u64))
+    Plan::Vector(
+        wd,
+        forms::indexed(op, df, d, read_register(vectors, ws), n as u64),
+    )
 }
 
 pub fn imm5(op: Arith, signed: bool, df: Width, wd: Vreg, ws: Vreg, imm: u8, vectors: &[u8]) -> Plan

@@ -1,12 +1,9 @@
--- `parallel_pack::quarter` meets its contract. Each arm knows the width.
+-- `parallel_pack::quarter` meets its contract. The bits of an element, divided by four.
 use borrow.Author.Needs.{needs}
-use mathlib.Core.Path.{refl}
+use mathlib.Core.Path.{ap}
+use Prim.Native.Nat.{_/_}
 use Rattle.parallel_pack.proofs.quarter.Statement.{statement}
 use Rattle.parallel_pack.proofs.quarter.Tie as tie
 
 pub quarter-spec : {M : Type 1} → statement M
-quarter-spec =
-    tie.close (tie.spec
-    (λ c. search needs) (λ c. search needs) (λ c. search needs) (λ c. search needs)
-    (λ c. rw (c .enum-told .given .1) refl) (λ c. rw (c .enum-told2 .given .1) refl)
-    (λ c. rw (c .enum-told3 .given .1) refl) (λ c. rw (c .enum-told4 .given .1) refl))
+quarter-spec = tie.close (tie.spec (λ c κs. search needs) (λ c. ap (λ x. x / 4) (c .count .ensures)))

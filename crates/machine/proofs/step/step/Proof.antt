@@ -1,4 +1,5 @@
--- `machine::step::step`: refused, or done by `one_turn`. Assumes nothing.
+-- `machine::step::step`: refused, or done as a run of one instruction. Assumes nothing.
+use Rattle.machine.proofs.RunLaws.{one-step}
 use Rattle.machine.proofs.StepLaws.{ran-is}
 use Rattle.state.proofs.Said.{setup-is}
 use Rattle.state.proofs.SetupLaws.{accepted}
@@ -8,14 +9,18 @@ use mathlib.Core.Path.{refl, sym, _∙_}
 use Rattle.machine.proofs.step.step.Statement.{statement}
 use Rattle.machine.proofs.step.step.Tie as tie
 
-one-turn-requires : tie.Need-one-turn-requires
-one-turn-requires c κs =
+turns-requires : tie.Need-turns-requires
+turns-requires c κs =
     let a = c .before .before .before .before .before .before .before .before .before .before .before .before .before .before .args in
     let sized = accepted (a .program .now) (env (a .board) (a .table .now)) (machine (a .vectors .now) (a .generals .now) (a .work .now) (a .c)) (sym (setup-is (c .before .before .before .before .before .check .ensures)) ∙ c .before .before .before .enum-told .given .1) in
     (sized .vectors, sized .generals)
 
 returns : tie.Need-returns
-returns c = rw (← setup-is (c .before .before .before .before .before .before .before .before .before .before .before .before .before .check .ensures), c .before .before .before .before .before .before .before .before .before .before .before .enum-told .given .1) (ran-is _ _ _ _ _ _ (c .before .before .before .before .before .before .before .one-turn .ensures) (c .ran .ensures))
+returns c =
+    let told = c .before .before .before .before .before .before .before .before .before .before .before .before in
+    let done = one-step _ _ _ _ _ _ _ (c .before .before .before .before .before .before .before .before .turns .ensures) in
+    rw (← setup-is (told .before .before .check .ensures), told .enum-told .given .1)
+    (ran-is _ _ _ _ _ _ (rw (c .before .as-step .ensures) done) (c .ran .ensures))
 
 returns-2 : tie.Need-returns-2
 returns-2 c =
@@ -25,6 +30,6 @@ returns-2 c =
 pub step-spec : {M : Type 1} → statement M
 step-spec =
     tie.close (tie.spec
-    (λ c κs. search needs) (λ c. search needs) one-turn-requires (λ c κs. search needs) (λ c. search needs)
-    (λ c. search needs) (λ c. search needs) (λ c. search needs) returns (λ c. search needs) (λ c. search needs)
-    (λ c. search needs) returns-2)
+    (λ c κs. search needs) (λ c. search needs) turns-requires (λ c κs. search needs) (λ c κs. search needs)
+    (λ c. search needs) (λ c. search needs) (λ c. search needs) (λ c. search needs) returns (λ c. search needs)
+    (λ c. search needs) (λ c. search needs) returns-2)

@@ -15,11 +15,8 @@ use Rattle.parallel.proofs.order.compared.Tie as tie
 
 sub-gap : tie.Need-sub-gap
 sub-gap c = let a = c .before .before .before .args in let own = own (shares (a .w)) in
-    omega (
-      arith,
-      gap-fits (a .w) (own (a .x) (search needs)) (own (a .y) (search needs)) (c .before .tops .ensures)
-          (c .lows .ensures),
-    )
+    let h = gap-fits (a .w) (own (a .x) (search needs)) (own (a .y) (search needs)) (c .before .tops .ensures) (c .lows .ensures) in
+    omega (arith, h)
 
 returns : tie.Need-returns
 returns c = let a = c .before .before .before .args in let share = shares (a .w) in

@@ -12,11 +12,8 @@ use Rattle.parallel.proofs.wrapping.difference.Tie as tie
 
 sub-result : tie.Need-sub-result
 sub-result c = let a = c .before .before .args in let own = own (shares (a .w)) in
-    omega (
-      arith,
-      gap-fits (a .w) (own (a .s) (search needs)) (own (a .t) (search needs)) (c .before .tops .ensures)
-          (c .lows .ensures),
-    )
+    let h = gap-fits (a .w) (own (a .s) (search needs)) (own (a .t) (search needs)) (c .before .tops .ensures) (c .lows .ensures) in
+    omega (arith, h)
 
 returns : tie.Need-returns
 returns c = let a = c .before .before .before .args in let share = shares (a .w) in
