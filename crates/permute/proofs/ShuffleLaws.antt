@@ -1,12 +1,9 @@
--- The elements that SHF chooses by its immediate, VSHF by its controls, and SPLAT by a place.
+-- The elements that SHF chooses by its immediate, and SPLAT by a place.
 use mathlib.Core.Path.{_≡_, sym, ap, _∙_}
-use mathlib.Core.Bool.{cond}
 use Prim.Native.Nat.{ℕ, _+_, _-_, _*_, _/_, _%_, _^_, _<_}
 use native.Mathlib.Omega.{arith}
-use lib.Dec.{eqb, ltb, lit<}
+use lib.Dec.{lit<}
 use lib.Bits.{bitAnd, and-mask}
-use lib.Pow.{pow-pos, mod-mod-pow}
-use Rattle.element.proofs.Diff.{cond-below}
 use Rattle.isa.specs.declared.Width.{Width}
 use Rattle.isa.specs.declared.Width.the-variants.{B, H, W, D}
 use Rattle.isa.specs.Widths.{bits}
@@ -20,7 +17,7 @@ use Rattle.vectors.proofs.Wholes.{value-low, value-high, whole-words}
 use Rattle.parallel.specs.Lanes.{Lanes}
 use Rattle.parallel.proofs.Words.{built, same-lanes}
 use Rattle.parallel_pack.proofs.Quarters.{sent, bits-0, bits-1, bits-2, bits-3}
-use Rattle.permute.specs.Permute.{both, chosenByControl, chosenByImmediate}
+use Rattle.permute.specs.Permute.{chosenByImmediate}
 
 -- SHF stays within four elements, and a word has all of them
 module _ {n : ℕ} (share : Shares n) {s : Register} (hs : Words s) (imm m : ℕ) (fours : 64 / n ≡ m * 4) {lo hi : ℕ}
@@ -76,40 +73,3 @@ last-mask B i = and-mask i 4
 last-mask H i = and-mask i 3
 last-mask W i = and-mask i 2
 last-mask D i = and-mask i 1
-
--- the low bits of a control
-pub reach-mask : (w : Width) (c : ℕ) → bitAnd c (256 / bits w - 1) ≡ c % 64 % (2 * (128 / bits w))
-reach-mask B c = and-mask c 5 ∙ sym (mod-mod-pow c 1 5)
-reach-mask H c = and-mask c 4 ∙ sym (mod-mod-pow c 2 4)
-reach-mask W c = and-mask c 3 ∙ sym (mod-mod-pow c 3 3)
-reach-mask D c = and-mask c 2 ∙ sym (mod-mod-pow c 4 2)
-
-pub reach-below : (w : Width) (c : ℕ) → bitAnd c (256 / bits w - 1) < 256 / bits w
-reach-below B c = omega (arith, and-mask c 5)
-reach-below H c = omega (arith, and-mask c 4)
-reach-below W c = omega (arith, and-mask c 3)
-reach-below D c = omega (arith, and-mask c 2)
-
--- what a control c chooses
-abbrev told : ℕ → ℕ → ℕ → ℕ → ℕ
-told n s t c = cond (eqb (c / 64 % 4) 0) (both n s t (c % 64 % (2 * (128 / n)))) 0
-
--- the same control in a word and in a register
-pub chosen-at : (n s t d x i j : ℕ) → element n d i ≡ element n x j
-    → chosenByControl n d s t i ≡ chosenByControl n x s t j
-unfolding chosenByControl
-chosen-at n s t d x i j e = ap (told n s t) e
-
-pub by-its-control : (n d s t i c : ℕ) {r : ℕ} → c ≡ element n d i → r ≡ told n s t c → r ≡ chosenByControl n d s t i
-unfolding chosenByControl
-by-its-control n d s t i c e h = h ∙ ap (told n s t) e
-
-both-below : (n s t j : ℕ) → both n s t j < 2 ^ n
-unfolding both
-both-below n s t j = cond-below (ltb j (128 / n)) (element-below n t j) (element-below n s (j - 128 / n))
-
-pub control-below : (n d s t i : ℕ) → chosenByControl n d s t i < 2 ^ n
-unfolding chosenByControl
-control-below n d s t i =
-    cond-below (eqb (element n d i / 64 % 4) 0)
-    (both-below n s t (element n d i % 64 % (2 * (128 / n)))) (pow-pos n)

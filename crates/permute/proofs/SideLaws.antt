@@ -1,5 +1,5 @@
 -- Two registers side by side: their elements, and the words that these are in.
-use mathlib.Core.Path.{_≡_, refl, sym, ap, _∙_}
+use mathlib.Core.Path.{_≡_, refl, sym, ap, ap₂, _∙_}
 use Prim.Native.Nat.{ℕ, zero, suc, _+_, _-_, _*_, _/_, _%_, _^_, _≤_, _<_}
 use native.Mathlib.Omega.{arith}
 use native.Mathlib.Nat.{mod-lt, div-add-mod', mul-le-mul-left, mod-eq-of-lt, div-one}
@@ -7,13 +7,13 @@ use borrow.Author.Tests.{lt-ltb, le-ltb}
 use lib.Dec.{lit<}
 use Rattle.element.proofs.Diff.{by-order}
 use Rattle.isa.specs.declared.Width.{Width}
-use Rattle.isa.specs.declared.Width.the-variants.{B, H, W, D}
+use Rattle.isa.specs.declared.Width.the-variants.{D}
 use Rattle.isa.specs.Widths.{bits}
 use Rattle.memory.specs.declared.Register.{Register}
 use Rattle.memory.specs.Value.{value}
 use Rattle.memory.proofs.Values.{Words}
 use Rattle.vectors.specs.Register.{element}
-use Rattle.vectors.proofs.Sizes.{Shares, shares, inside}
+use Rattle.vectors.proofs.Sizes.{Shares, shares, few, inside}
 use Rattle.vectors.proofs.Wholes.{value-low, value-high}
 use Rattle.parallel_pack.proofs.Places.{element-in}
 use Rattle.permute.specs.Permute.{both}
@@ -47,11 +47,11 @@ both-word {n} share s t a b l = by-order a 2
     below h = omega arith
 
 -- a place in bits
-pub record Spot (n j p : ℕ) : Type 0 where
-  pub word : p / 64 ≡ j / (64 / n)
-  pub bit : p % 64 ≡ n * (j % (64 / n))
+record Spot (n j p : ℕ) : Type 0 where
+  word : p / 64 ≡ j / (64 / n)
+  bit : p % 64 ≡ n * (j % (64 / n))
 
-pub spot : {n : ℕ} → Shares n → 0 < 64 / n → (j : ℕ) → Spot n j (n * j)
+spot : {n : ℕ} → Shares n → 0 < 64 / n → (j : ℕ) → Spot n j (n * j)
 spot {n} share some j =
     let whole : n * j ≡ 64 * (j / (64 / n)) + n * (j % (64 / n)) =
     ap (λ z. n * z) (sym (div-add-mod' j (64 / n))) ∙ mix (j / (64 / n)) (j % (64 / n)) in
@@ -70,17 +70,16 @@ spot {n} share some j =
         positive zero e = absurd (omega arith)
         positive (suc k) e = omega arith
 
-pub word-index : (w : Width) (j : ℕ) → j < 256 / bits w → j / (64 / bits w) < 4
-word-index B j h = omega arith
-word-index H j h = omega arith
-word-index W j h = omega arith
-word-index D j h = omega arith
-
-pub bits-before : (w : Width) (j : ℕ) → j < 256 / bits w → bits w * j < 256
-bits-before B j h = omega arith
-bits-before H j h = omega arith
-bits-before W j h = omega arith
-bits-before D j h = omega arith
+-- an element of them in its word
+pub both-at : (w : Width) (s t j : ℕ)
+    → both (bits w) s t j ≡ both 64 s t (bits w * j / 64) / 2 ^ (bits w * j % 64) % 2 ^ bits w
+unfolding element
+both-at w s t j =
+    let m = 64 / bits w in
+    let at = spot (shares w) (few w .some) j in
+    let whole : j ≡ j % m + m * (j / m) = omega (arith, div-add-mod' j m) in
+    ap (both (bits w) s t) whole ∙ both-word (shares w) s t (j / m) (j % m) (mod-lt j (few w .some))
+    ∙ sym (ap₂ (λ q k. both 64 s t q / 2 ^ k % 2 ^ bits w) (at .word) (at .bit))
 
 -- a register's words are its elements of 64 bits
 word-element : (x : ℕ) → x < 2 ^ 64 → element 64 x 0 ≡ x

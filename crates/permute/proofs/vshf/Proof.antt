@@ -9,7 +9,7 @@ use Rattle.vectors.proofs.ElementLaws.{build-same}
 use Rattle.vectors.proofs.Sizes.{shares}
 use Rattle.vectors.proofs.Wholes.{value-low, value-high, whole-words}
 use Rattle.permute.specs.Permute.{chosenByControl}
-use Rattle.permute.proofs.ShuffleLaws.{chosen-at}
+use Rattle.permute.proofs.ControlLaws.{chosen-at}
 use Rattle.permute.proofs.vshf.Statement.{statement}
 use Rattle.permute.proofs.vshf.Tie as tie
 
