@@ -71,6 +71,13 @@ digit d s (suc (suc (suc (suc (suc (suc zero)))))) h = omega (arith, s 0, s 1, s
 digit d s (suc (suc (suc (suc (suc (suc (suc zero))))))) h = omega (arith, s 0, s 1, s 2, s 3, s 4, s 5, s 6, s 7)
 digit d s (suc (suc (suc (suc (suc (suc (suc (suc c)))))))) h = absurd (omega arith)
 
+-- a place's byte is a column of its row
+pub column : (k : ℕ) → rowWord (k / 8) / 2 ^ (k % 8 * 8) % 256 ≡ byteAt k
+unfolding rowWord
+column k =
+    let p : k / 8 * 8 + k % 8 ≡ k = omega arith in
+    digit (λ c. byteAt (k / 8 * 8 + c)) (λ c. byte-small (k / 8 * 8 + c)) (k % 8) (omega arith) ∙ ap byteAt p
+
 -- ---- a byte's parts
 
 pub class-known : (c : Class) → classOf (classCode c) ≡ c

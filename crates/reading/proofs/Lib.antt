@@ -1,3 +1,4 @@
 pub mod Low
 pub mod Ranges
 pub mod Said
+pub mod Told

@@ -1,2 +1,3 @@
+pub mod Ahead
 pub mod Index
 pub mod Reading

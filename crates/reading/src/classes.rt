@@ -8,16 +8,23 @@ use ops::has;
 ghost use mathlib.Core.Path.{_≡_};
 ghost use Rattle.ops.specs.Classes as class;
 ghost use Rattle.ops.specs.Packed.{formatsOf};
+ghost use Rattle.reading.specs.Ahead.{noInstr};
 ghost use Rattle.reading.specs.Reading as reading;
 
-// A word that is no instruction.
+// A word that is no instruction: 12 or 14.
+pub fn no_instr(w: u32) -> Unread
+    ensures { λ r. ⌜ r ≡ noInstr w ⌝ }
+{
+    if w / 67108864 % 64 == 30 {
+        return Unread::Unassigned;
+    }
+    Unread::Other
+}
+
 pub fn vacant(w: u32) -> Read
     ensures { λ r. ⌜ r ≡ reading.vacant w ⌝ }
 {
-    if w / 67108864 % 64 == 30 {
-        return Read::Not(Unread::Unassigned);
-    }
-    Read::Not(Unread::Other)
+    Read::Not(no_instr(w))
 }
 
 fn given(w: u32, ok: bool, i: Instr) -> Read

@@ -1,5 +1,6 @@
 // Reading a 32-bit word as one instruction, or as 12, 13 or 14: the place of its operation in the table, and the
 // operands that the class there has.
+pub mod ahead;
 mod classes;
 mod index;
 mod operands;

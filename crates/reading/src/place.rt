@@ -5,6 +5,7 @@ ghost use mathlib.Core.Bool.{cond};
 ghost use lib.Dec.{eqb, ltb};
 ghost use Rattle.fields.specs.Fields.{bits};
 ghost use Rattle.ops.specs.Places as place;
+ghost use Rattle.reading.specs.Ahead.{otherBlock};
 ghost use Rattle.reading.specs.Reading.{placeIn, placeOf, msaBlock};
 ghost use Rattle.reading.specs.Reading as reading;
 
@@ -63,7 +64,7 @@ fn high_place(w: u32) -> u32
 }
 
 // The major opcode 011110.
-fn msa_place(w: u32) -> u32
+pub fn msa_place(w: u32) -> u32
     ensures { λ r. ⌜ (r ≡ placeIn (msaBlock w) w) × (r < 513) ⌝ }
 {
     let m = w % 64;
@@ -76,18 +77,25 @@ fn msa_place(w: u32) -> u32
     high_place(w)
 }
 
+// The other major opcodes.
+pub fn other_place(w: u32) -> u32
+    ensures { λ r. ⌜ (r ≡ placeIn (otherBlock w) w) × (r < 513) ⌝ }
+{
+    let major = w / 67108864 % 64;
+    if major == 17 {
+        return 440 + w / 8388608 % 8;
+    }
+    if major == 0 {
+        return 448 + w % 64;
+    }
+    512
+}
+
 pub fn place_of(w: u32) -> u16
     ensures { λ r. ⌜ r ≡ placeOf w ⌝ }
 {
-    let major = w / 67108864 % 64;
-    if major == 30 {
+    if w / 67108864 % 64 == 30 {
         return msa_place(w) as u16;
     }
-    if major == 17 {
-        return (440 + w / 8388608 % 8) as u16;
-    }
-    if major == 0 {
-        return (448 + w % 64) as u16;
-    }
-    512
+    other_place(w) as u16
 }
