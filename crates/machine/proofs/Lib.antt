@@ -1,4 +1,4 @@
-pub mod ProbeLaws
+pub mod AheadLaws
 pub mod Said
 pub mod RunLaws
 pub mod StepLaws

@@ -1,5 +1,5 @@
-// Steps, counted, until one stops or the budget is spent, and one step as a run of one. A step, a run and the call `why`
-// all go this way: so `advance` has one caller, and the compiler puts all of it into this loop.
+// Steps, counted, until one stops or the budget is spent, and one step as a run of one. A step and a run both go this
+// way: so `advance` has one caller, and the compiler puts all of it into this loop.
 use crate::advance::advance;
 use crate::run::Ended;
 use crate::run::Reason;

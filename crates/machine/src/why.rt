@@ -1,6 +1,6 @@
 // Why the next step would stop, or that it would not: on the lent memory of a step, all of it lent for reading, so that
-// nothing can change. `probe` says how it would end, and here the word at the counter and the fact are put beside that.
-use crate::probe::end_of;
+// nothing can change. `ahead` says how it would end, and here the word at the counter and the fact are put beside that.
+use crate::ahead::end_of;
 use crate::step::Answer;
 use crate::step::Outcome;
 use state::board::Board;

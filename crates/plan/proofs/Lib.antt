@@ -1,3 +1,4 @@
+pub mod AheadLaws
 pub mod NumberLaws
 pub mod PlanLaws
 pub mod VecLaws

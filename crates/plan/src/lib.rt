@@ -2,7 +2,9 @@
 // the one thing that changes beside the program counter and the slot mark. So the sources are always the values before
 // the step, and two machines can be compared by their plans.
 mod address;
+pub mod ahead;
 mod branch;
+mod early;
 mod moves;
 pub mod planned;
 pub mod scaled;

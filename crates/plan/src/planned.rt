@@ -2,6 +2,8 @@
 use crate::Plan;
 use crate::address::address;
 use crate::branch;
+use crate::early::branch_early;
+use crate::early::switched_early;
 use crate::moves;
 use crate::scaled;
 use crate::vector;
@@ -15,7 +17,7 @@ ghost use mathlib.Core.Path.{_≡_};
 ghost use lib.ListN.{length};
 ghost use Rattle.state.specs.Machine.{env, machine};
 ghost use Rattle.words.specs.Formed.{Formed};
-ghost use Rattle.plan.specs.Plan.{executed, kindOf, switchedEarly, branchEarly, planOf};
+ghost use Rattle.plan.specs.Plan.{executed, kindOf, planOf};
 ghost use Rattle.plan.specs.Plan as plans;
 
 // Which of 15 and 16 concern an instruction.
@@ -57,26 +59,6 @@ fn kind_of(i: Instr) -> Kind
         Instr::BranchV { .. } => Kind::Branching,
         Instr::Scaled { .. } => Kind::Free,
         Instr::Fixed { .. } => Kind::Switched,
-    }
-}
-
-fn switched_early(on: bool) -> Early
-    ensures { λ r. ⌜ r ≡ switchedEarly on ⌝ }
-{
-    if on {
-        Early::Go
-    } else {
-        Early::Stops(Stop::SwitchedOff)
-    }
-}
-
-fn branch_early(k: Mark, on: bool) -> Early
-    ensures { λ r. ⌜ r ≡ branchEarly k on ⌝ }
-{
-    match k {
-        Mark::Clear => switched_early(on),
-        Mark::NotTaken => Early::Stops(Stop::BranchInSlot),
-        Mark::Taken(_) => Early::Stops(Stop::BranchInSlot),
     }
 }
 

@@ -1,5 +1,5 @@
--- `machine::why::next`: the word that was fetched, and the outcome that the probes say. Assumes nothing.
-use Rattle.machine.proofs.ProbeLaws.{step-ends}
+-- `machine::why::next`: the word that was fetched, and the outcome that `ahead` finds. Assumes nothing.
+use Rattle.machine.proofs.AheadLaws.{step-ends}
 use Rattle.machine.specs.Why.{nextOf}
 use Rattle.state.proofs.Said.{fetched-is}
 use borrow.Author.Needs.{needs}

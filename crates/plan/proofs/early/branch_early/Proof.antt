@@ -1,8 +1,8 @@
--- `plan::planned::branch_early`: by the mark. Assumes nothing.
+-- `plan::early::branch_early`: by the mark. Assumes nothing.
 use borrow.Author.Needs.{needs}
 use mathlib.Core.Path.{refl}
-use Rattle.plan.proofs.planned.branch_early.Statement.{statement}
-use Rattle.plan.proofs.planned.branch_early.Tie as tie
+use Rattle.plan.proofs.early.branch_early.Statement.{statement}
+use Rattle.plan.proofs.early.branch_early.Tie as tie
 
 returns : tie.Need-returns
 returns c = rw (c .before .enum-told .given .1) (c .switched-early .ensures)
