@@ -1,7 +1,7 @@
 // What the operation of each encoding class makes of vector registers: the operations on registers behind the enums.
 // d, s and t are the old wd, ws and wt; an immediate stands in every element of t.
 ghost use mathlib.Core.Path.{_≡_};
-ghost use Prim.Native.Nat.{_≤_};
+ghost use Prim.Native.Nat.{_+_, _*_, _^_, _≤_};
 ghost use Rattle.isa.specs.Widths.{bits};
 ghost use Rattle.memory.specs.Value.{value, register};
 ghost use Rattle.forms.specs.Forms.{threeOf, fixedOf, indexedOf, imm5Of, bitOf, imm8Of, countOf};
@@ -19,6 +19,7 @@ use isa::Width;
 use lanes::Lane;
 use logic::logic;
 use memory::Register;
+use parallel_products::fixed_point::fixed as multiplied;
 use permute::moves::extend;
 use permute::moves::splat;
 use permute::pack;
@@ -39,22 +40,50 @@ pub fn three(op: Three, w: Width, d: Register, s: Register, t: Register) -> Regi
     }
 }
 
-// 3RF, the fixed-point multiplies, in formats of which 64 bits hold the products.
+// 3RF, the fixed-point multiplies, in formats of which 64 bits hold the products. Word by word from here: `lane` would
+// have to save machine registers for their loop, and so for every operation that it serves.
 pub fn fixed(op: Fixed, w: Width, d: Register, s: Register, t: Register) -> Register
     requires { ⌜ bits w ≤ 32 ⌝ }
     ensures { λ r. ⌜ r ≡ register (fixedOf op (bits w) (value d) (value s) (value t)) ⌝ }
 {
-    each(Lane::Fixed(op), w, d, s, t)
+    Register {
+        low: multiplied(op, w, d.low, s.low, t.low),
+        high: multiplied(op, w, d.high, s.high, t.high),
+    }
+}
+
+// indexed, with the words of d and s: registers would go through memory, numbers go in machine registers.
+fn indexed_words(
+    op: Indexed,
+    w: Width,
+    d_low: u64,
+    d_high: u64,
+    s_low: u64,
+    s_high: u64,
+    x: u64,
+) -> Register
+    ensures { λ r. ⌜ r ≡ register
+        (indexedOf op (bits w) («d_low» + «d_high» * 2 ^ 64) («s_low» + «s_high» * 2 ^ 64) x) ⌝ }
+{
+    let d = Register {
+        low: d_low,
+        high: d_high,
+    };
+    let s = Register {
+        low: s_low,
+        high: s_high,
+    };
+    match op {
+        Indexed::Sld => slide(w, d, s, x),
+        Indexed::Splat => splat(w, s, x),
+    }
 }
 
 // 3R with the general register x in the place of wt, and ELM with the index x there.
 pub fn indexed(op: Indexed, w: Width, d: Register, s: Register, x: u64) -> Register
     ensures { λ r. ⌜ r ≡ register (indexedOf op (bits w) (value d) (value s) x) ⌝ }
 {
-    match op {
-        Indexed::Sld => slide(w, d, s, x),
-        Indexed::Splat => splat(w, s, x),
-    }
+    indexed_words(op, w, d.low, d.high, s.low, s.high, x)
 }
 
 // The immediate of I5, carried to 64 bits with or without its sign.
