@@ -6,6 +6,8 @@ mod numbers;
 
 use state::board::Board;
 ghost use mathlib.Core.Path.{_≡_};
+ghost use mathlib.Core.Bool.{cond};
+ghost use lib.Dec.{eqb};
 ghost use Rattle.budget.specs.Budget.{budgetOf};
 ghost use Rattle.state.specs.Machine.{env, machine};
 ghost use Rattle.machine.specs.Run.{wholeRun};
@@ -54,7 +56,14 @@ fn board_of(program: u64, table: u64, work: u64, control: &[u8]) -> Board
     }
 }
 
-// One step.
+// The reason of a run of one instruction as that of a step: where its budget is spent, the instruction is finished.
+fn step_reason(n: u32) -> u64
+    ensures { λ r. ⌜ r ≡ cond (eqb n 20) 0 n ⌝ }
+{
+    if n == 20 { 0 } else { n as u64 }
+}
+
+// One step: a run of one instruction. So the machine stands in one function for both, whose frame they share.
 #[no_mangle]
 pub extern "C" fn msa_step(
     program: &[u8],
@@ -73,16 +82,21 @@ pub extern "C" fn msa_step(
         r (now (vectors .exit)) (now (generals .exit)) (now (work .exit)) (now (control .entry))
         (now (control .exit)) ⌝ }
 {
-    let board = board_of(program_base, table_base, work_base, control);
-    let c = block::control_of(control);
-    let a = machine::step::step(board, program, table, vectors, generals, work, c);
-    let answer = a.answer;
-    let after = a.control;
-    let n = numbers::answer_number(answer);
-    block::settle(n == 0, after, control);
+    let e = msa_run(
+        program,
+        program_base,
+        table,
+        table_base,
+        vectors,
+        generals,
+        work,
+        work_base,
+        control,
+        1,
+    );
     MsaStepped {
-        reason: n as u64,
-        missing: numbers::answer_missing(answer),
+        reason: step_reason(e.reason),
+        missing: e.missing,
     }
 }
 

@@ -10,7 +10,7 @@ ghost use mathlib.Core.Path.{_≡_};
 ghost use Rattle.isa.specs.Numbers.{unreadNumber};
 ghost use Rattle.state.specs.Numbers.{refusalNumber, stopNumber, stopMissing};
 ghost use Rattle.machine.specs.Numbers.{outcomeNumber, answerNumber, reasonNumber};
-ghost use Rattle.machine.specs.Numbers.{outcomeMissing, answerMissing, reasonMissing, ofOutcome};
+ghost use Rattle.machine.specs.Numbers.{reasonMissing, ofOutcome};
 ghost use Rattle.entry.specs.Why.{stopKind, answerKind};
 
 fn refusal_number(r: Refusal) -> u8
@@ -91,25 +91,7 @@ fn stop_missing(s: Stop) -> u64
     }
 }
 
-fn outcome_missing(o: Outcome) -> u64
-    ensures { λ n. ⌜ n ≡ outcomeMissing o ⌝ }
-{
-    match o {
-        Outcome::Finished => 0,
-        Outcome::Stopped(s) => stop_missing(s),
-    }
-}
-
-// The address that is missing, and 0 for every other answer.
-pub fn answer_missing(a: Answer) -> u64
-    ensures { λ n. ⌜ n ≡ answerMissing a ⌝ }
-{
-    match a {
-        Answer::Refused(_) => 0,
-        Answer::Ran(o) => outcome_missing(o),
-    }
-}
-
+// The address that is missing, and 0 for every other reason.
 pub fn reason_missing(e: Reason) -> u64
     ensures { λ n. ⌜ n ≡ reasonMissing e ⌝ }
 {
