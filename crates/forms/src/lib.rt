@@ -52,7 +52,8 @@ pub fn fixed(op: Fixed, w: Width, d: Register, s: Register, t: Register) -> Regi
     }
 }
 
-// indexed, with the words of d and s: registers would go through memory, numbers go in machine registers.
+// `indexed` by the words of d and s. Two classes of instructions share it, so it is a function of its own in the end:
+// registers would go to it through memory, words go in machine registers.
 fn indexed_words(
     op: Indexed,
     w: Width,
