@@ -74,9 +74,9 @@ class Function:
                 self.fail(at, f"returns with {depth} bytes in use")
             return []
         if what == "call":
-            if named is None:
+            if operands.startswith("*"):
                 self.fail(at, "a call through a pointer")
-            self.calls.add((named, depth + ADDRESS))
+            self.calls.add((named or self.name, depth + ADDRESS))
         elif what == "jmp" and operands.startswith("*"):
             self.jumps.add(depth)
             return []
