@@ -51,8 +51,9 @@ module _ (v g w b b′ : List ℕ) where
   Single s t = (r : MsaEnded) → RunsTo s r v g w b b′
       → StepsTo t (record { reason = cond (eqb (r .reason) 20) 0 (r .reason); missing = r .missing }) v g w b b′
 
-  -- by the number n and the missing address x of both, and the block after it
-  single : (s : Run) (t : Whole) → cond (eqb (reasonNumber (s .reason)) 20) 0 (reasonNumber (s .reason)) ≡ answerNumber (t .answer)
+  -- by the number n and the missing address x of both, the machine m after it, and whether the block is written
+  single : (s : Run) (t : Whole)
+      → cond (eqb (reasonNumber (s .reason)) 20) 0 (reasonNumber (s .reason)) ≡ answerNumber (t .answer)
       → reasonMissing (s .reason) ≡ answerMissing (t .answer) → s .after ≡ t .after
       → ltb 0 (s .count) ≡ eqb (answerNumber (t .answer)) 0 → Single s t
   single s t n x m k r i =
