@@ -51,6 +51,7 @@ static const char *const names[CALLS] = {"msa_step", "msa_run", "msa_why", "msa_
 
 /* the deepest of each call: by the code, as touched, with which word; and of each answer of a step or a run */
 static unsigned code[CALLS], touched[CALLS], kinds[MSA_SPENT + 1];
+static unsigned shuffle[RUN + 1]; /* of VSHF, by the code */
 static uint32_t words[CALLS];
 static unsigned long calls;
 
@@ -228,18 +229,26 @@ static unsigned of(unsigned call, uint32_t operation, unsigned format) {
     return most;
 }
 
-/* the figures of the machine code: the first of each line that names a call */
+/* The figures of the machine code: the deepest of each call; and of VSHF, which calls nothing unless the shuffle is a
+ * function of its own: the frames of the call and of the machine's function, entry::msa_run, and that function's. */
 static int figures(const char *path) {
     FILE *f = fopen(path, "r");
     char line[1024], name[64];
     unsigned bytes, own, found = 0;
     if (!f) return 0;
-    while (fgets(line, sizeof line, f))
+    while (fgets(line, sizeof line, f)) {
+        if (sscanf(line, "%u %u %63s", &bytes, &own, name) != 3) continue;
         for (unsigned c = 0; c < CALLS; c++)
-            if (sscanf(line, "%u %u %63s", &bytes, &own, name) == 3 && strcmp(name, names[c]) == 0) {
+            if (strcmp(name, names[c]) == 0) {
                 code[c] = bytes;
+                if (c <= RUN) shuffle[c] += own;
                 found++;
             }
+        for (unsigned c = STEP; c <= RUN; c++) {
+            if (strcmp(name, "entry::msa_run") == 0) shuffle[c] += own;
+            if (strstr(name, "::shuffle::")) shuffle[c] += bytes;
+        }
+    }
     fclose(f);
     return found == CALLS;
 }
@@ -265,15 +274,14 @@ int main(int count, char **arguments) {
     printf("by what a step or a run answers, as touched\n");
     for (unsigned n = 0; n <= MSA_SPENT; n++)
         if (kinds[n]) printf("%10u %5u\n", n, kinds[n]);
-    printf("format, ADDV and VSHF as a step, ADDV and VSHF as a run, as touched\n");
-    for (unsigned format = 0; format < 4; format++) {
-        printf("%10c", "BHWD"[format]);
-        for (unsigned call = STEP; call <= RUN; call++) {
+    for (unsigned call = STEP; call <= RUN; call++) {
+        printf("%s: format, ADDV and VSHF as touched; VSHF by the machine code at most %u\n", names[call], shuffle[call]);
+        for (unsigned format = 0; format < 4; format++) {
             unsigned a = of(call, addv, format), v = of(call, vshf, format);
-            printf(" %5u %5u%s", a, v, v > a ? " VSHF goes deeper" : "");
-            wrong |= v > a;
+            int deeper = v > a || v > shuffle[call];
+            printf("%10c %5u %5u%s\n", "BHWD"[format], a, v, deeper ? "   VSHF goes deeper" : "");
+            wrong |= deeper;
         }
-        printf("\n");
     }
     return wrong;
 }
