@@ -275,7 +275,8 @@ int main(int count, char **arguments) {
     for (unsigned n = 0; n <= MSA_SPENT; n++)
         if (kinds[n]) printf("%10u %5u\n", n, kinds[n]);
     for (unsigned call = STEP; call <= RUN; call++) {
-        printf("%s: format, ADDV and VSHF as touched; VSHF by the machine code at most %u\n", names[call], shuffle[call]);
+        printf("%s: format, ADDV and VSHF as touched; VSHF at most %u by the machine code\n", names[call],
+               shuffle[call]);
         for (unsigned format = 0; format < 4; format++) {
             unsigned a = of(call, addv, format), v = of(call, vshf, format);
             int deeper = v > a || v > shuffle[call];
