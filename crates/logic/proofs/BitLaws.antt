@@ -8,10 +8,13 @@ use lib.Pow.{pow-pos, ones-lt, ones-split}
 use lib.Pow as pow
 use Rattle.isa.specs.declared.Logic.{Logic}
 use Rattle.isa.specs.declared.Logic.the-variants.{And, Or, Nor, Xor, Bmnz, Bmz, Bsel}
+use Rattle.memory.specs.declared.Register.{Register}
+use Rattle.memory.specs.Value.{value, register}
+use Rattle.memory.proofs.Values.{Words, is-register}
 use Rattle.vectors.specs.Register.{build, element, together}
 use Rattle.vectors.proofs.ElementLaws.{element-below, build-element, build-same}
 use Rattle.vectors.proofs.Sizes.{shares-bit}
-use Rattle.vectors.proofs.Wholes.{whole-below, made-below, untouched}
+use Rattle.vectors.proofs.Wholes.{whole-below, made-below, untouched, together-words}
 use Rattle.logic.specs.Logic.{logicBit, andBit, orBit, notBit}
 
 -- bit i of an operation that goes digit by digit
@@ -113,3 +116,11 @@ pub logic-untouched : (op : Logic) (d s t d′ s′ t′ i : ℕ) → i < 128
     → element 1 d i ≡ element 1 d′ i → element 1 s i ≡ element 1 s′ i → element 1 t i ≡ element 1 t′ i
     → element 1 (together 1 (logicBit op) d s t) i ≡ element 1 (together 1 (logicBit op) d′ s′ t′) i
 logic-untouched op d s t d′ s′ t′ i h p q r = untouched 1 (logicBit op) (bit-below op) d s t d′ s′ t′ i h p q r
+
+-- a register goes by its two words
+pub both-bits : (op : Logic) (d s t r : Register) → Words d → Words s → Words t → Words r
+    → r .low ≡ build 1 (λ i. logicBit op (element 1 (d .low) i) (element 1 (s .low) i) (element 1 (t .low) i)) 64
+    → r .high ≡ build 1 (λ i. logicBit op (element 1 (d .high) i) (element 1 (s .high) i) (element 1 (t .high) i)) 64
+    → r ≡ register (together 1 (logicBit op) (value d) (value s) (value t))
+both-bits op d s t r hd hs ht hr low high =
+    is-register hr (together-words 1 (logicBit op) shares-bit d s t hd hs ht _ _ low high)

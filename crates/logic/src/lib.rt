@@ -8,7 +8,7 @@ use memory::Register;
 
 const ONES: u64 = 0xFFFF_FFFF_FFFF_FFFF;
 
-fn logic_word(op: Logic, d: u64, s: u64, t: u64) -> u64
+pub fn logic_word(op: Logic, d: u64, s: u64, t: u64) -> u64
     ensures { λ r. ⌜ r ≡ build 1 (λ i. logicBit op (element 1 d i) (element 1 s i) (element 1 t i)) 64 ⌝ }
 {
     match op {

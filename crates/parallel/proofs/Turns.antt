@@ -1,12 +1,14 @@
 -- A loop that fills a word from its top element down: in each turn the element that it makes fits, and the word is then
 -- built of one element more; at the end it has its elements.
-use mathlib.Core.Path.{_≡_, ap, ap₂, _∙_}
-use Prim.Native.Nat.{ℕ, _+_, _-_, _*_, _/_, _^_, _≤_, _<_}
+use mathlib.Core.Path.{_≡_, refl, ap, ap₂, _∙_}
+use Prim.Native.Nat.{ℕ, _+_, _-_, _*_, _/_, _%_, _^_, _≤_, _<_}
+use native.Mathlib.Omega.{arith}
 use Rattle.isa.specs.declared.Width.{Width}
 use Rattle.isa.specs.Widths.{bits}
+use Rattle.element.proofs.Widths.{size}
 use Rattle.vectors.specs.Register.{element}
 use Rattle.vectors.proofs.ElementLaws.{Built, built-none, built-more, built-room, built-all}
-use Rattle.vectors.proofs.Sizes.{Shares, shares}
+use Rattle.vectors.proofs.Sizes.{Shares, shares, inside}
 use Rattle.parallel.specs.Lanes.{Lanes, Each2, Each3}
 use Rattle.parallel.proofs.Words.{made}
 
@@ -30,9 +32,14 @@ pub record Turns2 (n : ℕ) (op : ℕ → ℕ → ℕ) (s t out i : ℕ) : Type 
   pub fit : (j : ℕ) → op (element n s j) (element n t j) < 2 ^ n
   pub built : Built n (λ j. op (element n s j) (element n t j)) (64 / n) out i
 
+pub begin2 : (w : Width) {op : ℕ → ℕ → ℕ} {s t i : ℕ}
+    → ((j : ℕ) → op (element (bits w) s j) (element (bits w) t j) < 2 ^ bits w) → i ≡ 64 / bits w
+    → Turns2 (bits w) op s t 0 i
+begin2 w fit e = rw e (record { share = shares w; fit = fit; built = built-none _ _ _ })
+
 pub start2 : (w : Width) {op : ℕ → ℕ → ℕ} {s t i : ℕ} → ((a b : ℕ) → op a b < 2 ^ bits w) → i ≡ 64 / bits w
     → Turns2 (bits w) op s t 0 i
-start2 w fit e = rw e (record { share = shares w; fit = λ j. fit _ _; built = built-none _ _ _ })
+start2 w fit e = begin2 w (λ j. fit _ _) e
 
 module _ {n : ℕ} {op : ℕ → ℕ → ℕ} {s t out i : ℕ} (inv : Turns2 n op s t out i) where
   pub done2 : i ≤ 0 → Each2 n out op s t
@@ -75,3 +82,12 @@ module _ {n : ℕ} {op : ℕ → ℕ → ℕ → ℕ} {d s t out i : ℕ} (inv :
       fit = inv .fit;
       built = turn-more (inv .built) left (of-three op is p q o) joined;
     }
+
+-- where the width comes as a number too: element i - 1 lies within the word, and is the low bits of the word shifted
+module _ (w : Width) {n : ℕ} (en : n ≡ bits w) where
+  pub place-fits : {i : ℕ} → 0 < i → i ≤ 64 / bits w → n * (i - 1) < 64
+  place-fits {i} some in-word = rw en (omega (arith, inside (shares w) (i - 1) (omega arith), size w .any))
+
+  pub element-is : (x i : ℕ) → x / 2 ^ (n * i) % 2 ^ bits w ≡ element (bits w) x i
+  unfolding element
+  element-is x i = rw en refl

@@ -12,10 +12,10 @@ use element::count;
 use element::ones;
 use isa::Width;
 
-mod clipped;
-mod compares;
+pub mod clipped;
+pub mod compares;
 pub mod dispatch;
-mod means;
+pub mod means;
 pub mod order;
 pub mod wrapping;
 

@@ -9,14 +9,14 @@ use super::tops;
 use isa::Width;
 use linear::wrapping;
 
-fn sum(w: Width, s: u64, t: u64) -> u64
+pub fn sum(w: Width, s: u64, t: u64) -> u64
     ensures { λ r. ⌜ Each2 (bits w) r (sums.addv (bits w)) s t ⌝ }
 {
     let m = lows(w);
     ((s & m) + (t & m)) ^ ((s ^ t) & tops(w))
 }
 
-fn difference(w: Width, s: u64, t: u64) -> u64
+pub fn difference(w: Width, s: u64, t: u64) -> u64
     ensures { λ r. ⌜ Each2 (bits w) r (sums.subv (bits w)) s t ⌝ }
 {
     let h = tops(w);

@@ -2,7 +2,7 @@
 use mathlib.Core.Path.{_≡_, refl, sym, ap, _∙_}
 use Prim.Native.Nat.{ℕ, zero, suc, _+_, _-_, _*_, _/_, _%_, _^_, _≤_, _<_}
 use native.Mathlib.Omega.{arith}
-use native.Mathlib.Nat.{mod-lt, mod-eq-of-lt, div-add-mod', mul-le-mul-right}
+use native.Mathlib.Nat.{add-mul-mod-self-right, mod-lt, mod-eq-of-lt, div-add-mod', mul-le-mul-right}
 use borrow.Author.Tests.{eq-eqb, ne-eqb}
 use lib.Arith.{digits-lt}
 use lib.Bits.{bitAnd, bitOr, bitXor, and-high, and-mask, and-le-l, and-le-r, or-lt, or-add-and, xor-add-and}
@@ -13,7 +13,7 @@ use Rattle.isa.specs.declared.Width.{Width}
 use Rattle.isa.specs.declared.Width.the-variants.{B, H, W, D}
 use Rattle.isa.specs.Widths.{bits}
 use Rattle.element.proofs.Views.{mod-is}
-use Rattle.element.proofs.Widths.{size}
+use Rattle.element.proofs.Widths.{size, low-low}
 use Rattle.bits.specs.Places.{bitAt, withBit, over}
 use Rattle.bits.specs.Shifts.{sll, lastOut}
 
@@ -43,8 +43,30 @@ amount-mask H e = and-mask e 4
 amount-mask W e = and-mask e 5
 amount-mask D e = and-mask e 6
 
+-- what stands above an element does not count
+amount-cut : (w : Width) (y : ℕ) → y % bits w ≡ y % 2 ^ bits w % bits w
+amount-cut B y = sym (mod-mod-pow y 5 3)
+amount-cut H y = sym (mod-mod-pow y 12 4)
+amount-cut W y = sym (mod-mod-pow y 27 5)
+amount-cut D y = sym (mod-mod-pow y 58 6)
+
+-- so a shift to the left has no need of a cut before it
+pub sll-cut : (w : Width) (x k : ℕ) → x * 2 ^ k % 2 ^ 64 % 2 ^ bits w ≡ sll (bits w) (x % 2 ^ bits w) k
+unfolding sll
+sll-cut w x k =
+    let m = 2 ^ bits w in
+    low-low w (x * 2 ^ k) ∙ ap (λ z. z % m) (ap (λ z. z * 2 ^ k) (sym (div-add-mod' x m)) ∙ omega arith)
+    ∙ add-mul-mod-self-right (x % m * 2 ^ k) (x / m * 2 ^ k) m
+
 pub amount-below : (w : Width) (e : ℕ) → e % bits w < bits w
 amount-below w e = mod-lt e (size w .any)
+
+module _ (w : Width) {n : ℕ} (en : n ≡ bits w) (y : ℕ) where
+  pub amount-is : bitAnd y (n - 1) ≡ y % 2 ^ bits w % bits w
+  amount-is = rw en (amount-mask w y) ∙ amount-cut w y
+
+  pub amount-fits : bitAnd y (n - 1) < 64
+  amount-fits = omega (arith, amount-is, amount-below w (y % 2 ^ bits w), size w .few)
 
 -- the amount that an element with its bits the other way round asks for
 pub amount-inverse : (w : Width) (x : ℕ) → x < 2 ^ bits w
@@ -73,8 +95,12 @@ module _ (n f k : ℕ) (small : k < n) where
   sll-lane = sym (mod-is (f * 2 ^ k) (2 ^ n) (f % 2 ^ (n - k) * 2 ^ k) 0 (f / 2 ^ (n - k)) moved-below
       (rw whole (let e = ap (λ x. x * 2 ^ k) (div-add-mod' f (2 ^ (n - k))) in omega arith)))
 
--- shifts to the left: by nothing, by two amounts in turn, and of 1
+-- shifts to the left: an element, by nothing, by two amounts in turn, and of 1
 module _ (n : ℕ) where
+  pub sll-below : (a k : ℕ) → sll n a k < 2 ^ n
+  unfolding sll
+  sll-below a k = mod-lt (a * 2 ^ k) (pow-pos n)
+
   pub sll-none : (a : ℕ) → a < 2 ^ n → sll n a 0 ≡ a
   unfolding sll
   sll-none a h = ap (λ z. z % 2 ^ n) (let e : a * 2 ^ 0 ≡ a = omega arith in e) ∙ mod-eq-of-lt h

@@ -1,5 +1,5 @@
--- Shifts by the amounts in the elements of a word t: by one amount, or in steps where they differ. The laws are over
--- any shift that does nothing for 0 and adds up, so that left and right are one.
+-- Shifts by the amounts in the elements of a word t: by one amount, or in steps, as bytes go, or one by one. The laws
+-- of the steps are over any shift that does nothing for 0 and adds up, so that left and right are one.
 use mathlib.Core.Path.{_≡_, sym, ap, _∙_}
 use mathlib.Core.Bool.{cond}
 use Prim.Native.Nat.{ℕ, zero, suc, _+_, _-_, _*_, _/_, _%_, _^_, _<_}
@@ -9,7 +9,7 @@ use lib.Bits.{bitAnd}
 use lib.Dec.{eqb}
 use lib.Pow.{mod-pow-add, shr-shr}
 use Rattle.isa.specs.declared.Width.{Width}
-use Rattle.isa.specs.declared.Width.the-variants.{B, H, W, D}
+use Rattle.isa.specs.declared.Width.the-variants.{B}
 use Rattle.isa.specs.Widths.{bits}
 use Rattle.bits.specs.Places.{bitAt}
 use Rattle.bits.specs.Shifts.{sll}
@@ -110,14 +110,3 @@ module _ {w : Width} {act : ℕ → ℕ → ℕ} (shift : Shift w act) (s t : �
   module _ {x : ℕ} (low : Done (bits w) act s t 3 x) where
     pub bytes : w ≡ B → Each2 (bits w) x (λ a b. act a (b % bits w)) s t
     bytes e = whole 3 (ap bits e) low
-
-    pub halves : {r : ℕ} → w ≡ H → Step (bits w) act t 3 x r → Each2 (bits w) r (λ a b. act a (b % bits w)) s t
-    halves e a = whole 4 (ap bits e) (next 3 low a)
-
-    pub words : {y r : ℕ} → w ≡ W → Step (bits w) act t 3 x y → Step (bits w) act t 4 y r
-        → Each2 (bits w) r (λ a b. act a (b % bits w)) s t
-    words e a b = whole 5 (ap bits e) (next 4 (next 3 low a) b)
-
-    pub doubles : {y z r : ℕ} → w ≡ D → Step (bits w) act t 3 x y → Step (bits w) act t 4 y z
-        → Step (bits w) act t 5 z r → Each2 (bits w) r (λ a b. act a (b % bits w)) s t
-    doubles e a b c = whole 6 (ap bits e) (next 5 (next 4 (next 3 low a) b) c)

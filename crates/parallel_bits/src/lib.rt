@@ -9,8 +9,8 @@ use isa::Width;
 use parallel::units;
 
 pub mod dispatch;
-mod places;
-mod shifting;
+pub mod places;
+pub mod shifting;
 mod steps;
 
 // e in every element.

@@ -87,8 +87,8 @@ fn last_out(w: Width, s: u64, t: u64) -> u64
     right(w, sll(w, s, 1), t) & units(w)
 }
 
-// SRLR and SRAR. The sum is one of views, which do not overflow.
-pub fn shift_rounded(w: Width, g: Reading, s: u64, t: u64) -> u64
+// SRLR and SRAR, each element by its own amount. The sum is one of views, which do not overflow.
+fn rounded_each(w: Width, g: Reading, s: u64, t: u64) -> u64
     ensures { λ r. ⌜ Each2 (bits w) r (λ a b. shifts.shiftRounded g (bits w) a (b % bits w)) s t ⌝ }
 {
     viewed(
@@ -96,4 +96,47 @@ pub fn shift_rounded(w: Width, g: Reading, s: u64, t: u64) -> u64
         g,
         viewed(w, g, shift_right(w, g, s, t)) + last_out(w, s, t),
     )
+}
+
+// The same by one amount: the floor, the last bit that is moved out, and both.
+fn floor(w: Width, g: Reading, s: u64, k: u64) -> u64
+    requires { ⌜ k < bits w ⌝ }
+    ensures { λ r. ⌜ Each1 (bits w) r (λ a. shifts.shiftRight g (bits w) a k) s ⌝ }
+{
+    match g {
+        Reading::Unsigned => shr(w, s, k),
+        Reading::Signed => {
+            let m = filled(w, s);
+            shr(w, s ^ m, k) ^ m
+        }
+    }
+}
+
+fn last_of(w: Width, s: u64, k: u64) -> u64
+    requires { ⌜ k < bits w ⌝ }
+    ensures { λ r. ⌜ Each1 (bits w) r (λ a. shifts.lastOut a k) s ⌝ }
+{
+    (sll(w, s, 1) >> k) & units(w)
+}
+
+fn rounded_by(w: Width, g: Reading, s: u64, k: u64) -> u64
+    requires { ⌜ k < bits w ⌝ }
+    ensures { λ r. ⌜ Each1 (bits w) r (λ a. shifts.shiftRounded g (bits w) a k) s ⌝ }
+{
+    viewed(w, g, viewed(w, g, floor(w, g, s, k)) + last_of(w, s, k))
+}
+
+// The two readings are told apart so that the rare case is no part of this function: a function that is called in one
+// place only becomes part of its caller.
+pub fn shift_rounded(w: Width, g: Reading, s: u64, t: u64) -> u64
+    ensures { λ r. ⌜ Each2 (bits w) r (λ a b. shifts.shiftRounded g (bits w) a (b % bits w)) s t ⌝ }
+{
+    let k = common(w, t);
+    if k < count(w) {
+        return rounded_by(w, g, s, k);
+    }
+    match g {
+        Reading::Unsigned => rounded_each(w, Reading::Unsigned, s, t),
+        Reading::Signed => rounded_each(w, Reading::Signed, s, t),
+    }
 }

@@ -1,22 +1,20 @@
-// HADD and HSUB on all elements of a word at once: the halves of every element, at the full width.
+// HADD and HSUB on all elements of a word at once. A half has room for the carry above it; the halves of signed
+// elements are taken as unsigned numbers in their order, and the sum or difference is turned at the full width after.
 ghost use mathlib.Core.Path.{_≡_};
-ghost use Prim.Native.Nat.{ℕ, _-_, _/_, _%_, _^_, _<_};
+ghost use Prim.Native.Nat.{ℕ, _+_, _-_, _/_, _^_, _<_};
 ghost use Rattle.isa.specs.Widths.{bits};
-ghost use Rattle.element.specs.declared.Reading.the-variants.{Signed};
-ghost use Rattle.element.specs.Value.{top, value, wrap};
+ghost use Rattle.element.specs.Elements.{Elements};
+ghost use Rattle.element.specs.Value.{top};
+ghost use Rattle.element.specs.Views as views;
 ghost use Rattle.products.specs.Halves as halves;
 ghost use Rattle.products.specs.Operations.{acrossOf};
 ghost use Rattle.vectors.specs.Register.{element};
 ghost use Rattle.parallel.specs.Lanes.{Each1, Each2, Lanes};
 use element::Reading;
-use element::ones;
-use element::pow2;
 use isa::Across;
 use isa::Width;
-use parallel::units;
-use parallel::wrapping::addv;
-use parallel::wrapping::subv;
-use parallel_bits::spread_word;
+use parallel::flipped;
+use parallel::tops;
 
 // The bits of half an element.
 fn part(w: Width) -> u64
@@ -34,7 +32,12 @@ fn part(w: Width) -> u64
 fn lower(w: Width) -> u64
     ensures { λ r. ⌜ Lanes (bits w) r (λ _. 2 ^ (bits w / 2) - 1) ⌝ }
 {
-    spread_word(w, pow2(part(w)) - 1)
+    match w {
+        Width::B => 0x0F0F_0F0F_0F0F_0F0F,
+        Width::H => 0x00FF_00FF_00FF_00FF,
+        Width::W => 0x0000_FFFF_0000_FFFF,
+        Width::D => 0x0000_0000_FFFF_FFFF,
+    }
 }
 
 fn high_half(w: Width, x: u64) -> u64
@@ -49,60 +52,65 @@ fn low_half(w: Width, x: u64) -> u64
     x & lower(w)
 }
 
-// Ones in the high half of one element.
-fn above(w: Width) -> u64
-    ensures { λ r. ⌜ r ≡ 2 ^ bits w - 1 - (2 ^ (bits w / 2) - 1) ⌝ }
+// The top bit of the low half of every element.
+fn middle(w: Width) -> u64
+    ensures { λ r. ⌜ Lanes (bits w) r (λ _. top (bits w / 2)) ⌝ }
 {
-    ones(w) - (pow2(part(w)) - 1)
-}
-
-// The top bit of every low half, as 0 or 1.
-fn negative(w: Width, x: u64) -> u64
-    ensures { λ r. ⌜ Each1 (bits w) r (λ a. a / top (bits w / 2) % 2 ^ 1) x ⌝ }
-{
-    (x >> (part(w) - 1)) & units(w)
-}
-
-// Every half as a number, at the full width: one that is negative has ones above it.
-fn stretched(w: Width, x: u64) -> u64
-    requires { ⌜ ((i : ℕ) → i < 64 / bits w → element (bits w) x i < 2 ^ (bits w / 2)) ⌝ }
-    ensures { λ r. ⌜ Each1 (bits w) r (λ a. wrap (bits w) (value Signed (bits w / 2) a)) x ⌝ }
-{
-    x + negative(w, x) * above(w)
-}
-
-fn extended(w: Width, g: Reading, x: u64) -> u64
-    requires { ⌜ ((i : ℕ) → i < 64 / bits w → element (bits w) x i < 2 ^ (bits w / 2)) ⌝ }
-    ensures { λ r. ⌜ Each1 (bits w) r (λ a. wrap (bits w) (value g (bits w / 2) a)) x ⌝ }
-{
-    match g {
-        Reading::Unsigned => x,
-        Reading::Signed => stretched(w, x),
+    match w {
+        Width::B => 0x0808_0808_0808_0808,
+        Width::H => 0x0080_0080_0080_0080,
+        Width::W => 0x0000_8000_0000_8000,
+        Width::D => 0x0000_0000_8000_0000,
     }
 }
 
-pub fn odd(w: Width, g: Reading, x: u64) -> u64
-    ensures { λ r. ⌜ Each1 (bits w) r (λ a. wrap (bits w) (value g (bits w / 2) (halves.odd (bits w) a))) x ⌝ }
+// Every half with its top bit the other way round: as an unsigned number in signed order.
+fn turned(w: Width, x: u64) -> u64
+    requires { ⌜ ((i : ℕ) → i < 64 / bits w → element (bits w) x i < 2 ^ (bits w / 2)) ⌝ }
+    ensures { λ r. ⌜ Each1 (bits w) r (views.flip (bits w / 2)) x ⌝ }
 {
-    extended(w, g, high_half(w, x))
+    x ^ middle(w)
 }
 
-pub fn even(w: Width, g: Reading, x: u64) -> u64
-    ensures { λ r. ⌜ Each1 (bits w) r (λ a. wrap (bits w) (value g (bits w / 2) (halves.even (bits w) a))) x ⌝ }
+// What a sum of two halves so turned is short of the sum of the halves, turned at the full width.
+fn short(w: Width) -> u64
+    ensures { λ r. ⌜ Lanes (bits w) r (λ _. top (bits w) - 2 ^ (bits w / 2)) ⌝ }
 {
-    extended(w, g, low_half(w, x))
+    match w {
+        Width::B => 0x7070_7070_7070_7070,
+        Width::H => 0x7F00_7F00_7F00_7F00,
+        Width::W => 0x7FFF_0000_7FFF_0000,
+        Width::D => 0x7FFF_FFFF_0000_0000,
+    }
 }
 
-fn hadd(w: Width, g: Reading, s: u64, t: u64) -> u64
+pub fn hadd(w: Width, g: Reading, s: u64, t: u64) -> u64
     ensures { λ r. ⌜ Each2 (bits w) r (halves.hadd g (bits w)) s t ⌝ }
 {
-    addv(w, odd(w, g, s), even(w, g, t))
+    match g {
+        Reading::Unsigned => high_half(w, s) + low_half(w, t),
+        Reading::Signed => flipped(
+            w,
+            turned(w, high_half(w, s)) + turned(w, low_half(w, t)) + short(w),
+        ),
+    }
 }
 
-fn hsub(w: Width, g: Reading, s: u64, t: u64) -> u64
+// The difference of halves.
+fn apart(w: Width, x: u64, y: u64) -> u64
+    requires { ⌜ ((i : ℕ) → i < 64 / bits w → Elements (bits w / 2) (element (bits w) x i) (element (bits w) y i)) ⌝ }
+    ensures { λ r. ⌜ Each2 (bits w) r (λ a b. views.flip (bits w) (a + top (bits w) - b)) x y ⌝ }
+{
+    flipped(w, x + tops(w) - y)
+}
+
+pub fn hsub(w: Width, g: Reading, s: u64, t: u64) -> u64
     ensures { λ r. ⌜ Each2 (bits w) r (halves.hsub g (bits w)) s t ⌝ }
 {
-    subv(w, odd(w, g, s), even(w, g, t))
+    match g {
+        Reading::Unsigned => apart(w, high_half(w, s), low_half(w, t)),
+        Reading::Signed => apart(w, turned(w, high_half(w, s)), turned(w, low_half(w, t))),
+    }
 }
 
 pub fn across(op: Across, w: Width, s: u64, t: u64) -> u64

@@ -1,8 +1,8 @@
 // Products and quotients of all elements of a word. A product needs twice the element's bits, so it goes element by
 // element, in a loop with nothing to choose in it; the width is a constant at each call of such a loop, and so the
-// compiler unrolls it. Sums of products go by words again.
+// compiler unrolls it. The sums of DPADD and DPSUB go by words again.
 pub mod dispatch;
-mod division;
-mod dot;
+pub mod division;
+pub mod dot;
 pub mod fixed_point;
-mod product;
+pub mod product;

@@ -1,24 +1,17 @@
--- `parallel_bits::steps::left_each` meets its contract. The steps of a width are the amounts modulo it (Barrel).
+-- `parallel_bits::steps::left_each` meets its contract. Bytes go in steps (Barrel), other elements one by one.
 use borrow.Author.Needs.{needs}
-use lib.Dec.{lit<}
-use Rattle.parallel_bits.proofs.Barrel.{to-left, bytes, halves, words, doubles}
+use Prim.Native.Nat.{_%_}
+use Rattle.bits.specs.Shifts.{sll}
+use Rattle.parallel.proofs.Named.{at-width2}
+use Rattle.parallel_bits.proofs.Barrel.{to-left, bytes}
 use Rattle.parallel_bits.proofs.steps.left_each.Statement.{statement}
 use Rattle.parallel_bits.proofs.steps.left_each.Tie as tie
 
 pub left-each-spec : {M : Type 1} → statement M
 left-each-spec =
-    tie.close (tie.spec (λ c κs. search needs)
-    (λ c. search needs) (λ c. search needs) (λ c κs. rw (c .enum-told2 .given .1) (lit< tt, lit< tt))
-    (λ c. search needs) (λ c κs. rw (c .enum-told3 .given .1) (lit< tt, lit< tt))
-    (λ c κs. rw (c .before .enum-told3 .given .1) (lit< tt, lit< tt)) (λ c. search needs)
-    (λ c κs. rw (c .enum-told4 .given .1) (lit< tt, lit< tt))
-    (λ c κs. rw (c .before .enum-told4 .given .1) (lit< tt, lit< tt))
-    (λ c κs. rw (c .before .before .enum-told4 .given .1) (lit< tt, lit< tt))
-    (λ c. bytes (to-left _) _ _ (c .before .before .left-mod-8 .ensures) (c .enum-told .given .1))
-    (λ c. halves (to-left _) _ _ (c .before .before .before .left-mod-8 .ensures) (c .before .enum-told2 .given .1)
-    (c .step-left .ensures))
-    (λ c. words (to-left _) _ _ (c .before .before .before .before .left-mod-8 .ensures)
-    (c .before .before .enum-told3 .given .1) (c .before .step-left2 .ensures) (c .step-left3 .ensures))
-    (λ c. doubles (to-left _) _ _ (c .before .before .before .before .before .left-mod-8 .ensures)
-    (c .before .before .before .enum-told4 .given .1)
-    (c .before .before .step-left4 .ensures) (c .before .step-left5 .ensures) (c .step-left6 .ensures)))
+    tie.close (tie.spec (λ c. search needs) (λ c κs. search needs) (λ c. search needs) (λ c κs. search needs)
+    (λ c. search needs) (λ c κs. search needs) (λ c. search needs) (λ c κs. search needs)
+    (λ c. bytes (to-left _) _ _ (c .left-mod-8 .ensures) (c .before .enum-told .given .1))
+    (λ c. search (needs, at-width2 (λ n a b. sll n a (b % n))))
+    (λ c. search (needs, at-width2 (λ n a b. sll n a (b % n))))
+    (λ c. search (needs, at-width2 (λ n a b. sll n a (b % n)))))

@@ -1,0 +1,2 @@
+-- The laws that the proofs of several functions share.
+pub mod Dots
