@@ -1,8 +1,8 @@
 // The C entry: one step, one run, why the next step would stop, or how large a budget is enough, on numbers and byte
 // slices. The slices go on to the machine as they are lent; only the control block is read from its bytes and, by a
 // step or a run, written back.
-mod block;
-mod numbers;
+pub mod block;
+pub mod numbers;
 
 use state::board::Board;
 ghost use mathlib.Core.Path.{_≡_};
@@ -44,7 +44,7 @@ pub struct MsaWhy {
 }
 
 // The board of a call: where things begin, and the order that its control block names.
-fn board_of(program: u64, table: u64, work: u64, control: &[u8]) -> Board
+pub fn board_of(program: u64, table: u64, work: u64, control: &[u8]) -> Board
     ensures { λ r. ⌜ r ≡ board (ordered (now (control .entry))) program table work ⌝ }
 {
     let order = block::order_of(control);

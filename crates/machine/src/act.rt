@@ -15,7 +15,7 @@ ghost use Rattle.words.specs.Formed.{Formed};
 ghost use Rattle.machine.specs.Step.{concluded, decided, StepIs};
 
 // Does what the plan says; a plan to stop changes nothing.
-fn conclude(
+pub fn conclude(
     p: Plan,
     board: Board,
     vectors: &mut [u8],

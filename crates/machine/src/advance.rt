@@ -16,7 +16,7 @@ ghost use Rattle.state.specs.Machine.{env, machine};
 ghost use Rattle.machine.specs.Step.{unreadStop, stoppedWith, stepOf, StepIs};
 
 // A stop of an accepted step: nothing is changed.
-fn stopped(s: Stop, c: Control) -> Stepped
+pub fn stopped(s: Stop, c: Control) -> Stepped
     ensures { λ r. ⌜ r ≡ stoppedWith s c ⌝ }
 {
     Stepped {

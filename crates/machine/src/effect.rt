@@ -30,7 +30,7 @@ pub fn outcome_of(p: Plan) -> Outcome
 }
 
 // Writes general register r; a write to register 0 is dropped.
-fn write_general(generals: &mut [u8], r: Greg, x: u64)
+pub fn write_general(generals: &mut [u8], r: Greg, x: u64)
     requires { ⌜ (length (now generals) ≡ 256) × (r .0 < 32) ⌝ }
     ensures { λ _. ⌜ now (generals .exit) ≡ withGeneral (now (generals .entry)) r x ⌝ }
 {
@@ -76,7 +76,7 @@ fn pc_after(k: Mark, pc: u64) -> u64
 }
 
 // The control block one word on, or at the target of a mark that was taken, with this mark and this MSACSR.
-fn forward(c: Control, mark: Mark, csr: u32) -> Control
+pub fn forward(c: Control, mark: Mark, csr: u32) -> Control
     ensures { λ r. ⌜ r ≡ forwarded c mark csr ⌝ }
 {
     let found = c.mark;

@@ -3,9 +3,9 @@
 // Lent memory is bytes; the control block goes by value. The public entries, `step::step`, `run::run` and `why::why`,
 // refuse a bad set-up themselves.
 pub mod act;
-mod advance;
+pub mod advance;
 mod ahead;
-mod effect;
+pub mod effect;
 pub mod run;
 pub mod step;
 mod turns;

@@ -16,7 +16,7 @@ ghost use Rattle.plan.specs.Zero.{takenOf, takenVOf};
 ghost use Rattle.plan.specs.Numbers.{target};
 ghost use Rattle.plan.specs.Plan.{marked};
 
-fn mark_of(taken: bool, to: u64) -> Mark
+pub fn mark_of(taken: bool, to: u64) -> Mark
     ensures { λ r. ⌜ r ≡ marked taken to ⌝ }
 {
     if taken {

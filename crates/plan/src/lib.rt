@@ -3,14 +3,14 @@
 // the step, and two machines can be compared by their plans.
 mod address;
 pub mod ahead;
-mod branch;
-mod early;
-mod moves;
+pub mod branch;
+pub mod early;
+pub mod moves;
 pub mod planned;
 pub mod scaled;
 mod trap;
 mod vector;
-mod zero;
+pub mod zero;
 
 use isa::Greg;
 use isa::Vreg;

@@ -39,7 +39,7 @@ pub fn general(generals: &[u8], r: Greg) -> u64
     memory::eight(generals, 8 * n)
 }
 
-fn copied(op: Copied, df: Width, s: Register, n: u64) -> u64
+pub fn copied(op: Copied, df: Width, s: Register, n: u64) -> u64
     ensures { λ r. ⌜ r ≡ copyOf op df (value s) n ⌝ }
 {
     match op {
@@ -78,7 +78,7 @@ pub fn to_control(cd: Creg, x: u64) -> Plan
     Plan::Nothing
 }
 
-fn load(df: Width, wd: Vreg, a: u64, board: Board, table: &[u8], work: &[u8]) -> Plan
+pub fn load(df: Width, wd: Vreg, a: u64, board: Board, table: &[u8], work: &[u8]) -> Plan
     ensures { λ r. ⌜ r ≡ loaded (spotOf board (length (now (table .entry))) (length (now (work .entry))) a)
         (board .order) df wd (now (table .entry)) (now (work .entry)) ⌝ }
 {
@@ -90,7 +90,7 @@ fn load(df: Width, wd: Vreg, a: u64, board: Board, table: &[u8], work: &[u8]) ->
     }
 }
 
-fn store(
+pub fn store(
     df: Width,
     wd: Vreg,
     a: u64,

@@ -38,12 +38,19 @@ fn dlsa_of(x: u64, y: u64, sa: u8) -> u64
     addv(Width::D, mulv(Width::D, x, factor(sa)), y)
 }
 
+pub fn scaled_of(op: Scaled, x: u64, y: u64, sa: u8) -> u64
+    requires { ⌜ sa < 4 ⌝ }
+    ensures { λ r. ⌜ r ≡ scaledOf op x y sa ⌝ }
+{
+    match op {
+        Scaled::Lsa => lsa_of(x, y, sa),
+        Scaled::Dlsa => dlsa_of(x, y, sa),
+    }
+}
+
 pub fn scaled(op: Scaled, rd: Greg, x: u64, y: u64, sa: u8) -> Plan
     requires { ⌜ sa < 4 ⌝ }
     ensures { λ r. ⌜ r ≡ Plan.General rd (scaledOf op x y sa) ⌝ }
 {
-    match op {
-        Scaled::Lsa => Plan::General(rd, lsa_of(x, y, sa)),
-        Scaled::Dlsa => Plan::General(rd, dlsa_of(x, y, sa)),
-    }
+    Plan::General(rd, scaled_of(op, x, y, sa))
 }

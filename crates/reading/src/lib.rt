@@ -1,10 +1,10 @@
 // Reading a 32-bit word as one instruction, or as 12, 13 or 14: the place of its operation in the table, and the
 // operands that the class there has. `ahead` says of a word only what may stop it.
 pub mod ahead;
-mod classes;
-mod index;
-mod operands;
-mod place;
+pub mod classes;
+pub mod index;
+pub mod operands;
+pub mod place;
 
 use crate::classes::*;
 use crate::place::place_of;
