@@ -1,0 +1,6 @@
+pub mod ActLaws
+pub mod FilledLaws
+pub mod KeptLaws
+pub mod PlaceLaws
+pub mod StepLaws
+pub mod ThereLaws
