@@ -12,7 +12,7 @@ import os
 import re
 import sys
 
-WORD = re.compile(r"(?<![A-Za-z0-9_'])[a-z][\w']*[A-Z][\w']*")
+WORD = re.compile(r"(?<![A-Za-z0-9_'])(?!b'.')[a-z][\w']*[A-Z][\w']*")
 # A lemma that would have the new name of a definition that it uses.
 FIRST = {"crates/words/proofs/WriteRead.antt": [("width_code", "width_back")]}
 

@@ -4,7 +4,7 @@ use isa::{Read, Unread};
 use reading::read_word;
 use std::num::wrapping_add_u64;
 
-#[derive(Drop)]
+#[derive(Clone, Copy)]
 struct Counts {
     read: u64,
     left_out: u64,

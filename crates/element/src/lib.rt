@@ -1,5 +1,7 @@
 // One element of a vector register, a number below 2^bits: the numbers of its width, and the readings that the operations share.
 // All of it, and every operation but ADDV and SUBV (crate `linear`), is over the width: written and proved once for the four formats.
+#![tactic(auto)]
+
 ghost use Rattle.std.specs.Prelude.{◌≡◌, ◌-◌, ◌%◌, ◌^◌, ◌<◌};
 ghost use Rattle.isa.specs.Widths.{bits};
 ghost use Rattle.element.specs.Value as value;
@@ -10,7 +12,7 @@ ghost use Rattle.element.specs.Elements.{Element};
 use isa::Width;
 
 // How an element is read: as a number from 0 on, or with its top bit for the sign.
-#[derive(Drop)]
+#[derive(Clone, Copy)]
 pub enum Reading {
     Unsigned,
     Signed,

@@ -19,7 +19,7 @@ use state::board::Board;
 // What C gets of a step: 0 where it is finished, else the number of the refusal or of the stop; and with 17 the address
 // that is missing, with every other number 0.
 #[repr(C)]
-#[derive(Drop)]
+#[derive(Clone, Copy)]
 pub struct MsaStepped {
     pub reason: u64,
     pub missing: u64,
@@ -27,7 +27,7 @@ pub struct MsaStepped {
 
 // What C gets of a run: the number of its reason, the count of finished instructions, and the missing address.
 #[repr(C)]
-#[derive(Drop)]
+#[derive(Clone, Copy)]
 pub struct MsaEnded {
     pub reason: u32,
     pub count: u32,
@@ -37,7 +37,7 @@ pub struct MsaEnded {
 // What C gets of the call that says why the next step would stop: the number that `msa_step` would answer; what kind of
 // fact stands behind a stop; the word and the fact. Kind, word and fact are 0 where there is none.
 #[repr(C)]
-#[derive(Drop)]
+#[derive(Clone, Copy)]
 pub struct MsaWhy {
     pub number: u16,
     pub kind: u16,

@@ -3,24 +3,26 @@
 // follow the rows of the manual's Tables 3.19 to 3.28, so none has more than eight variants. Where one operation
 // stands in two formats (ADDV and ADDVI, SLL and SLLI, AND.V and ANDI.B, SLD and SLDI) both do what one enum says:
 // its meaning is then said once.
+#![tactic(auto)]
+
 pub mod widths;
 
 // The three register files, kept apart as the manual keeps wd, rs and cs apart.
-#[derive(Drop)]
+#[derive(Clone, Copy)]
 pub struct Vreg(pub u8);
 
-#[derive(Drop)]
+#[derive(Clone, Copy)]
 pub struct Greg(pub u8);
 
-#[derive(Drop)]
+#[derive(Clone, Copy)]
 pub struct Creg(pub u8);
 
 // An operation, by its place in the table of operations.
-#[derive(Drop)]
+#[derive(Clone, Copy)]
 pub struct Op(pub u16);
 
 // The data formats, Table 3.10.
-#[derive(Drop)]
+#[derive(Clone, Copy)]
 pub enum Width {
     B,
     H,
@@ -29,7 +31,7 @@ pub enum Width {
 }
 
 // 3R 001110 and I5 000110.
-#[derive(Drop)]
+#[derive(Clone, Copy)]
 pub enum Basic {
     Addv,
     Subv,
@@ -40,14 +42,14 @@ pub enum Basic {
 }
 
 // 3R 001110, by absolute value.
-#[derive(Drop)]
+#[derive(Clone, Copy)]
 pub enum Absolute {
     MaxA,
     MinA,
 }
 
 // 3R 001111 and I5 000111.
-#[derive(Drop)]
+#[derive(Clone, Copy)]
 pub enum Compare {
     Ceq,
     CltS,
@@ -57,7 +59,7 @@ pub enum Compare {
 }
 
 // 3R 010000.
-#[derive(Drop)]
+#[derive(Clone, Copy)]
 pub enum Addition {
     AddA,
     AddsA,
@@ -70,7 +72,7 @@ pub enum Addition {
 }
 
 // 3R 010001.
-#[derive(Drop)]
+#[derive(Clone, Copy)]
 pub enum Subtraction {
     SubsS,
     SubsU,
@@ -81,7 +83,7 @@ pub enum Subtraction {
 }
 
 // 3R 010010.
-#[derive(Drop)]
+#[derive(Clone, Copy)]
 pub enum Product {
     Mulv,
     Maddv,
@@ -93,7 +95,7 @@ pub enum Product {
 }
 
 // 3R 010011; no B form.
-#[derive(Drop)]
+#[derive(Clone, Copy)]
 pub enum Dot {
     DotpS,
     DotpU,
@@ -104,7 +106,7 @@ pub enum Dot {
 }
 
 // 3R 010101; no B form.
-#[derive(Drop)]
+#[derive(Clone, Copy)]
 pub enum Across {
     HaddS,
     HaddU,
@@ -113,7 +115,7 @@ pub enum Across {
 }
 
 // Every operation of 3R and I5 that works on numbers: Table 4.1 but SAT, and the compares of Table 4.8.
-#[derive(Drop)]
+#[derive(Clone, Copy)]
 pub enum Arith {
     Basic(Basic),
     Absolute(Absolute),
@@ -126,7 +128,7 @@ pub enum Arith {
 }
 
 // 3R 001101 and BIT 001001.
-#[derive(Drop)]
+#[derive(Clone, Copy)]
 pub enum Bitwise {
     Sll,
     Sra,
@@ -139,21 +141,21 @@ pub enum Bitwise {
 }
 
 // 3R 010101 and BIT 001010.
-#[derive(Drop)]
+#[derive(Clone, Copy)]
 pub enum Rounding {
     Srar,
     Srlr,
 }
 
 // BIT 001010.
-#[derive(Drop)]
+#[derive(Clone, Copy)]
 pub enum Saturate {
     SatS,
     SatU,
 }
 
 // 3RF 011100, Table 4.7; H and W forms alone.
-#[derive(Drop)]
+#[derive(Clone, Copy)]
 pub enum Fixed {
     MulQ,
     MaddQ,
@@ -164,7 +166,7 @@ pub enum Fixed {
 }
 
 // 3R 010100, between vector registers.
-#[derive(Drop)]
+#[derive(Clone, Copy)]
 pub enum Pack {
     Pckev,
     Pckod,
@@ -175,14 +177,14 @@ pub enum Pack {
 }
 
 // 3R 010100 with a general register in place of wt, and ELM with an element's index there.
-#[derive(Drop)]
+#[derive(Clone, Copy)]
 pub enum Indexed {
     Sld,
     Splat,
 }
 
 // What 3R does with three vector registers, Table 3.25.
-#[derive(Drop)]
+#[derive(Clone, Copy)]
 pub enum Three {
     Arith(Arith),
     Bitwise(Bitwise),
@@ -192,7 +194,7 @@ pub enum Three {
 }
 
 // What BIT does, Table 3.28.
-#[derive(Drop)]
+#[derive(Clone, Copy)]
 pub enum BitOp {
     Bitwise(Bitwise),
     Saturate(Saturate),
@@ -200,7 +202,7 @@ pub enum BitOp {
 }
 
 // VEC, Table 3.22, and I8, Table 3.21, but for SHF.
-#[derive(Drop)]
+#[derive(Clone, Copy)]
 pub enum Logic {
     And,
     Or,
@@ -212,14 +214,14 @@ pub enum Logic {
 }
 
 // ELM: from an element to a general register. COPY_U has no D form.
-#[derive(Drop)]
+#[derive(Clone, Copy)]
 pub enum Copied {
     CopyS,
     CopyU,
 }
 
 // 2R, Table 3.23, but for FILL.
-#[derive(Drop)]
+#[derive(Clone, Copy)]
 pub enum Count {
     Pcnt,
     Nloc,
@@ -227,21 +229,21 @@ pub enum Count {
 }
 
 // MI10, Table 3.19.
-#[derive(Drop)]
+#[derive(Clone, Copy)]
 pub enum Memory {
     Ld,
     St,
 }
 
 // Table 3.17.
-#[derive(Drop)]
+#[derive(Clone, Copy)]
 pub enum Zero {
     Bz,
     Bnz,
 }
 
 // LSA and DLSA, major opcode 000000.
-#[derive(Drop)]
+#[derive(Clone, Copy)]
 pub enum Scaled {
     Lsa,
     Dlsa,
@@ -249,7 +251,7 @@ pub enum Scaled {
 
 // An instruction, by its class: which operands it has, and where they stand in its word. A class of one operation
 // names none. Immediates, offsets and the LSA shift are the field's bits, not yet signed or scaled.
-#[derive(Drop)]
+#[derive(Clone, Copy)]
 pub enum Instr {
     Three {
         op: Op,
@@ -393,7 +395,7 @@ pub enum Instr {
 }
 
 // Why a word reads as no instruction: 12, 13 and 14.
-#[derive(Drop)]
+#[derive(Clone, Copy)]
 pub enum Unread {
     Unassigned,
     LeftOut,
@@ -401,14 +403,14 @@ pub enum Unread {
 }
 
 // What reading a word answers.
-#[derive(Drop)]
+#[derive(Clone, Copy)]
 pub enum Read {
     Not(Unread),
     Instr(Instr),
 }
 
 // What writing an instruction answers: 6, or the word.
-#[derive(Drop)]
+#[derive(Clone, Copy)]
 pub enum Written {
     Refused,
     Word(u32),

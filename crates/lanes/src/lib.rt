@@ -3,7 +3,7 @@ use isa::{Arith, BitOp, Count, Fixed};
 
 pub mod dispatch;
 
-#[derive(Drop)]
+#[derive(Clone, Copy)]
 pub enum Lane {
     Arith(Arith),
     Bit(BitOp),

@@ -7,7 +7,7 @@ ghost use Rattle.line_writer.specs.Moved.{moved};
 
 use listing::{Line, Part, put_part};
 
-#[derive(Drop)]
+#[derive(Clone, Copy)]
 pub struct LineWriter<'a> {
     pub line: &'a mut [u8],
     pub at: usize,

@@ -7,7 +7,7 @@ use entries::parts::code_of;
 use isa::Unread;
 use state::stops::Stop;
 
-#[derive(Drop)]
+#[derive(Clone, Copy)]
 pub enum Kept {
     Code(u64),
     Not(Unread),

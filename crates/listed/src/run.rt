@@ -14,7 +14,7 @@ use state::setup;
 use state::setup::Setup;
 
 // Whether the list is too short, and where it is not, how the run ended.
-#[derive(Drop)]
+#[derive(Clone, Copy)]
 pub struct Listed {
     pub short: bool,
     pub ended: Ended,

@@ -16,14 +16,14 @@ use shown::{Form, Shown, shown_of};
 use text::{blank, put_byte, put_decimal, put_hex, put_text};
 
 // What writing a line answers: 7, or the line's length.
-#[derive(Drop)]
+#[derive(Clone, Copy)]
 pub enum Line {
     Refused,
     Length(usize),
 }
 
 // A line's parts: the address with ": ", the word with a blank, the word's text, and blanks up to the line's end.
-#[derive(Drop)]
+#[derive(Clone, Copy)]
 pub enum Part {
     Address(u32),
     Word(u32),
@@ -35,10 +35,10 @@ fn letter(df: Width) -> u8
     ensures { result ≡ listing.letter df }
 {
     match df {
-        Width::B => b'_b',
-        Width::H => b'_h',
-        Width::W => b'_w',
-        Width::D => b'_d',
+        Width::B => b'B',
+        Width::H => b'H',
+        Width::W => b'W',
+        Width::D => b'D',
     }
 }
 

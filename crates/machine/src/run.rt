@@ -10,7 +10,7 @@ use state::setup::{Refusal, Setup};
 use state::stops::Stop;
 
 // Why a run ended.
-#[derive(Drop)]
+#[derive(Clone, Copy)]
 pub enum Reason {
     Refused(Refusal),
     Stopped(Stop),
@@ -18,7 +18,7 @@ pub enum Reason {
 }
 
 // The reason, the count of finished instructions, and the control block after the last of them.
-#[derive(Drop)]
+#[derive(Clone, Copy)]
 pub struct Ended {
     pub reason: Reason,
     pub count: u32,

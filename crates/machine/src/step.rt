@@ -11,28 +11,28 @@ use state::setup::{Refusal, Setup};
 use state::stops::Stop;
 
 // How a step of an accepted set-up ends.
-#[derive(Drop)]
+#[derive(Clone, Copy)]
 pub enum Outcome {
     Finished,
     Stopped(Stop),
 }
 
 // The outcome, with the control block after it.
-#[derive(Drop)]
+#[derive(Clone, Copy)]
 pub struct Stepped {
     pub outcome: Outcome,
     pub control: Control,
 }
 
 // How a step ends: refused at set-up, or as its outcome says.
-#[derive(Drop)]
+#[derive(Clone, Copy)]
 pub enum Answer {
     Refused(Refusal),
     Ran(Outcome),
 }
 
 // What a step answers, with the control block after it.
-#[derive(Drop)]
+#[derive(Clone, Copy)]
 pub struct Answered {
     pub answer: Answer,
     pub control: Control,

@@ -14,7 +14,7 @@ use state::stops::Stop;
 use state::{fetch, setup};
 
 // How the step would end, and the word and the fact behind a stop: 0 where there is none.
-#[derive(Drop)]
+#[derive(Clone, Copy)]
 pub struct Cause {
     pub answer: Answer,
     pub word: u32,

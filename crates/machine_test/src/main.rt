@@ -97,7 +97,7 @@ fn read_head(h: &mut [u8; 112]) {
 }
 
 // The registers and the control block of a case, before it or after it.
-#[derive(Drop)]
+#[derive(Clone, Copy)]
 struct Held {
     vectors: [u8; 513],
     generals: [u8; 264],

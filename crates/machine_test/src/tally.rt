@@ -3,7 +3,7 @@
 use crate::head;
 use std::num::wrapping_add_u64;
 
-#[derive(Drop)]
+#[derive(Clone, Copy)]
 pub struct Tally {
     pub cases: [u64; 12],
     pub agree: [u64; 12],

@@ -1,5 +1,7 @@
 // Bytes at a place of lent memory, and the little-endian numbers that they spell: four bytes a program word, eight a general register,
 // sixteen a vector register. A register of 128 bits goes by value, in two words.
+#![tactic(auto)]
+
 pub mod file;
 
 ghost use Rattle.std.specs.Prelude.{◌≡◌, ◌+◌, ◌<◌, ◌≤◌, length};
@@ -7,7 +9,7 @@ ghost use Rattle.memory.specs.Bytes.{part, replaced, number, bytes_of};
 ghost use Rattle.memory.specs.Value.{value, Holds};
 
 // Bits 0 to 63, and 64 to 127.
-#[derive(Drop)]
+#[derive(Clone, Copy)]
 pub struct Register {
     pub low: u64,
     pub high: u64,

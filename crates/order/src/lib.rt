@@ -10,7 +10,7 @@ ghost use Rattle.order.specs.Moved.{neighbour, Lower, Moved, Size};
 use isa::Width;
 use memory::Register;
 
-#[derive(Drop)]
+#[derive(Clone, Copy)]
 pub enum Order {
     Little,
     Big,

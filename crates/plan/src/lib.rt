@@ -17,7 +17,7 @@ use memory::Register;
 use state::control::Mark;
 use state::stops::Stop;
 
-#[derive(Drop)]
+#[derive(Clone, Copy)]
 pub enum Plan {
     Stop(Stop),
     Nothing,

@@ -15,14 +15,14 @@ use state::control::{Control, Mark};
 use state::stops::Stop;
 
 // Which of 15 and 16 concern an instruction.
-#[derive(Drop)]
+#[derive(Clone, Copy)]
 pub enum Kind {
     Branching,
     Switched,
     Free,
 }
 
-#[derive(Drop)]
+#[derive(Clone, Copy)]
 pub enum Early {
     Go,
     Stops(Stop),

@@ -17,7 +17,7 @@ use isa::widths::width_at;
 use isa::{Creg, Greg, Op, Unread, Width};
 use ops::{byte_beside, has};
 
-#[derive(Drop)]
+#[derive(Clone, Copy)]
 pub enum Ahead {
     // 12, 13 or 14
     Not(Unread),

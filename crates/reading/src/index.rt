@@ -5,7 +5,7 @@ ghost use Rattle.reading.specs.Index as index;
 use isa::Width;
 
 // ok is false for a pattern that is assigned to nothing.
-#[derive(Drop)]
+#[derive(Clone, Copy)]
 pub struct Index {
     pub ok: bool,
     pub df: Width,

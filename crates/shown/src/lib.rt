@@ -12,14 +12,14 @@ use crate::classes::{
 use isa::{Creg, Greg, Instr, Vreg, Width};
 
 // A number with its sign.
-#[derive(Drop)]
+#[derive(Clone, Copy)]
 pub struct Number {
     pub minus: bool,
     pub size: u16,
 }
 
 // What stands behind the mnemonic: nothing, a data format, or .V.
-#[derive(Drop)]
+#[derive(Clone, Copy)]
 pub enum Form {
     Bare,
     Each(Width),
@@ -27,7 +27,7 @@ pub enum Form {
 }
 
 // One operand: $w1, $1, $1, -1, $w1[2], $w1[$2], -8($1).
-#[derive(Drop)]
+#[derive(Clone, Copy)]
 pub enum Operand {
     Nothing,
     Vector(Vreg),
@@ -40,7 +40,7 @@ pub enum Operand {
 }
 
 // The place of the operation in the table, the format, and up to four operands.
-#[derive(Drop)]
+#[derive(Clone, Copy)]
 pub struct Shown {
     pub name: u16,
     pub form: Form,

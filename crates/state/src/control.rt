@@ -1,14 +1,14 @@
 // The control block, by value.
 
 // The slot mark: what the last finished instruction leaves for the next one.
-#[derive(Drop)]
+#[derive(Clone, Copy)]
 pub enum Mark {
     Clear,
     NotTaken,
     Taken(u64),
 }
 
-#[derive(Drop)]
+#[derive(Clone, Copy)]
 pub struct Control {
     pub pc: u64,
     pub mark: Mark,

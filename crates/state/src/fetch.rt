@@ -1,7 +1,7 @@
 // The word at the program counter. The program is a store of its own: its words' bytes, word i at base + 4i.
 ghost use Rattle.state.specs.Fetch.{Fetches};
 
-#[derive(Drop)]
+#[derive(Clone, Copy)]
 pub enum Fetched {
     Word(u32),
     NoWord,

@@ -8,7 +8,7 @@ use crate::board::Board;
 use crate::control::{Control, Mark};
 
 // Why a set-up is refused: 1 to 5.
-#[derive(Drop)]
+#[derive(Clone, Copy)]
 pub enum Refusal {
     Registers,
     Program,
@@ -18,7 +18,7 @@ pub enum Refusal {
 }
 
 // What the limits say of a set-up.
-#[derive(Drop)]
+#[derive(Clone, Copy)]
 pub enum Setup {
     Accepted,
     Refused(Refusal),

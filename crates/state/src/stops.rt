@@ -3,7 +3,7 @@
 use isa::Unread;
 
 // 11 to 19.
-#[derive(Drop)]
+#[derive(Clone, Copy)]
 pub enum Stop {
     NoWord,
     Unread(Unread),

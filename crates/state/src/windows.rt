@@ -6,7 +6,7 @@ ghost use Rattle.state.specs.Windows.{placed, lies_in, first_outside, missing, s
 use crate::board::Board;
 use std::num::wrapping_add_u64;
 
-#[derive(Drop)]
+#[derive(Clone, Copy)]
 pub enum Found {
     At(usize),
     Nowhere,
@@ -68,7 +68,7 @@ fn missing_of(board: Board, table: usize, work: usize, a: u64) -> u64
     first_outside(board.work, work, a)
 }
 
-#[derive(Drop)]
+#[derive(Clone, Copy)]
 pub enum Spot {
     Table(usize),
     Work(usize),

@@ -1,4 +1,6 @@
 // Pieces of text put into a lent line, each from a place on. Each answers the place behind it, so a line is a run of these.
+#![tactic(auto)]
+
 ghost use Rattle.std.specs.Prelude.{◌≡◌, [], ◌∷◌, ◌<◌, ◌≤◌, ltb, length, replicate};
 ghost use Rattle.fields.specs.Fields.{both};
 ghost use Rattle.text.specs.Text.{Room, Puts};

@@ -11,7 +11,7 @@ use writing::write_word;
 
 // Decode, encode and skipped cases, first of the random files and then of the corners; the last are encode cases of our
 // own.
-#[derive(Drop)]
+#[derive(Clone, Copy)]
 struct Tally {
     agree: [u64; 8],
     cases: [u64; 8],

@@ -10,7 +10,7 @@ use crate::layouts::*;
 use isa::{Instr, Written};
 
 // An instruction's fields, the highest first, by width and value; ok where it has its format and index.
-#[derive(Drop)]
+#[derive(Clone, Copy)]
 pub struct Layout {
     pub ok: bool,
     pub widths: [u32; 7],

@@ -5,15 +5,11 @@ use borrow.Author.Rules.{rules}
 use native.Mathlib.Omega.{arith}
 use Rattle.memory.proofs.Numbers.{number-parts}
 use Rattle.memory.proofs.Values.{holds}
-use Rattle.memory.proofs.sixteen.Statement.{statement}
-use Rattle.memory.proofs.sixteen.Tie as tie
+use Rattle.memory.proofs.sixteen.Goals as goal
 
-returns : tie.Need-returns
+pub returns : goal.returns
 returns c =
-    let s = c.before.before.before in
+    let s = c in
     holds (record { low = search rules; high = search rules })
-    (ap₂ (λ a b. a + b * 2 ^ 64) c.before.eight.ensures c.eight2.ensures
+    (ap₂ (λ a b. a + b * 2 ^ 64) c.eight.ensures c.eight-2.ensures
     ∙ sym (number-parts s.args.s.now s.args.at 8 8 (omega (arith, s.requires))))
-
-pub sixteen_spec : {M : Type 1} → statement M
-sixteen_spec = tie.close (tie.spec (λ c κs. search rules) (λ c. search rules) (λ c κs. search rules) returns)
