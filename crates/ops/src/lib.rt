@@ -1,5 +1,7 @@
 // The table of operations in the code: a byte a place, eight places a number. specs/Table.antt has the table in
 // words, and specs/Packed.antt what a byte says.
+#![tactic(auto)]
+
 ghost use Rattle.std.specs.Prelude.{◌≡◌, ◌/◌, ◌%◌, ◌^◌, eqb};
 ghost use Rattle.isa.specs.declared.Width.{Width};
 ghost use Rattle.isa.specs.Widths.{width_code};

@@ -9,38 +9,33 @@ use Rattle.memory.specs.Value.{value}
 use Rattle.vectors.specs.Register.{element}
 use Rattle.vectors.proofs.Sizes.{shares}
 use Rattle.vectors.proofs.Wholes.{value_low, value-high, value-beyond}
-use Rattle.vectors.proofs.element_at.Statement.{statement}
-use Rattle.vectors.proofs.element_at.Tie as tie
+use Rattle.vectors.proofs.element_at.Goals as goal
 
-returns : tie.Need-returns
-returns c =
-    let a = c.before.before.before.args in
+pub returns-then-i-m : goal.returns-then-i-m
+returns-then-i-m c =
+    let a = c.args in
     record {
-      is = c.in-word.ensures.is ∙ sym (value_low (shares a.w) (record { low = search rules; high = search rules }) a.i (omega arith));
-      below = c.in-word.ensures.below;
+      is = c.in_word.ensures.is ∙ sym (value_low (shares a.w) (record { low = search rules; high = search rules }) a.i (omega arith));
+      below = c.in_word.ensures.below;
     }
 
-returns-2 : tie.Need-returns-2
-returns-2 c =
-    let before = c.before.before.before in
-    let a = before.before.args in
-    let rest = a.i - before.per-word.result in
+pub returns-then-i-m-2 : goal.returns-then-i-m-2
+returns-then-i-m-2 c =
+    let before = c in
+    let a = before.args in
+    let rest = a.i - before.per_word-m.result in
     let place : a.i ≡ 64 / bits a.w + rest = omega arith in
     record {
       is =
-          c.in-word2.ensures.is
+          c.in_word-then-i-m-2.ensures.is
           ∙ sym (ap (element (bits a.w) (value a.v)) place ∙ value-high (shares a.w) (record { low = search rules; high = search rules }) rest);
-      below = c.in-word2.ensures.below;
+      below = c.in_word-then-i-m-2.ensures.below;
     }
 
-returns-3 : tie.Need-returns-3
-returns-3 c =
-    let a = c.before.before.before.args in
+pub returns-else-i-m-2 : goal.returns-else-i-m-2
+returns-else-i-m-2 c =
+    let a = c.args in
     record {
       is = sym (value-beyond (shares a.w) (record { low = search rules; high = search rules }) a.i (omega (arith, shares a.w)));
       below = pow_pos (bits a.w);
     }
-
-pub element_at_spec : {M : Type 1} → statement M
-element_at_spec =
-    tie.close (tie.spec (λ c κs. search rules) (λ c κs. search rules) returns (λ c κs. search rules) returns-2 returns-3)

@@ -1,0 +1,7 @@
+-- `ops::has_form` meets its contract.
+use borrow.Author.Rules.{rules}
+use Rattle.ops.proofs.Packed.{formats-in}
+use Rattle.ops.proofs.has_form.Goals as goal
+
+pub returns : goal.returns
+returns c = let k = c.args.k in rw (c.has.ensures, c.byte_at.ensures, formats-in k)
