@@ -54,7 +54,8 @@ fn made(e: u64, vectors: &[u8], generals: &[u8]) -> Register
             return shuffled(e, vectors);
         }
         let s = read_register(vectors, Vreg(source_of(e)));
-        return seldom(e, s, third(e, vectors), vectors);
+        let d = read_register(vectors, Vreg(dest_of(e)));
+        return seldom(e, d, s, third(e, vectors));
     }
     other(e, vectors, generals)
 }

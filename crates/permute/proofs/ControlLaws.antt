@@ -1,11 +1,12 @@
 -- The elements that VSHF chooses by its controls, and what its loop keeps.
 use mathlib.Core.Path.{◌≡◌, refl, sym, ap, ap₂, ◌∙◌}
 use mathlib.Core.Bool.{cond}
-use Prim.Native.Nat.{ℕ, suc, ◌+◌, ◌-◌, ◌*◌, ◌/◌, ◌%◌, ◌^◌, ◌≤◌, ◌<◌}
+use mathlib.Core.List.{List}
+use Prim.Native.Nat.{ℕ, zero, suc, ◌+◌, ◌-◌, ◌*◌, ◌/◌, ◌%◌, ◌^◌, ◌≤◌, ◌<◌}
 use native.Mathlib.Nat.{lt_of_mul-lt-mul_left, eq_of_mul-eq-mul_left}
 use native.Mathlib.Omega.{arith}
 use borrow.Author.Tests.{eq-eqb, ne_eqb}
-use lib.Dec.{eqb, ltb}
+use lib.Dec.{eqb, ltb, lit<}
 use lib.Bits.{bit_and, and_mask}
 use lib.Pow.{pow_pos, pow_mono, mod-mod-pow, shl_exact}
 use Rattle.element.proofs.Diff.{cond_below}
@@ -21,7 +22,8 @@ use Rattle.vectors.proofs.ElementLaws.{element-below, build-below, build-same}
 use Rattle.vectors.proofs.Sizes.{Shares, shares, inside}
 use Rattle.vectors.proofs.Wholes.{value_low, value-high, whole_words}
 use Rattle.permute.specs.Permute.{both, chosen_by_control}
-use Rattle.permute.proofs.SideLaws.{both_at}
+use lib.ListN.{get_or}
+use Rattle.permute.proofs.SideLaws.{both_at, place-first, place-second, low_word, high_word}
 
 -- the low bits of a control
 reach-mask : (w : Width) (c : ℕ) → bit_and c (256 / bits w - 1) ≡ c % 64 % (2 * (128 / bits w))
@@ -205,3 +207,29 @@ module _ {d s t n mask last out p : ℕ} (g : Turn d s t n mask last out p) wher
 
   pub turn-all : 64 ≤ p → out ≡ build n (chosen_by_control n d s t) (64 / n)
   turn-all h = grown-all share g.grown turn-some h
+
+-- the registers whose words a list has, the first two wt's and the others ws's
+abbrev pub first : List ℕ → Register
+first l = record { low = get_or l 0 0; high = get_or l 1 0 }
+
+abbrev pub second : List ℕ → Register
+second l = record { low = get_or l 2 0; high = get_or l 3 0 }
+
+word_at : (l : List ℕ) → Words (first l) → Words (second l) → (q : ℕ) → q < 4
+    → get_or l q 0 ≡ both 64 (value (second l)) (value (first l)) q
+word_at l t s zero h = low_word t ∙ place-first 64 (value (second l)) (value (first l)) 0 refl (lit< tt)
+word_at l t s (suc zero) h = high_word t ∙ place-first 64 (value (second l)) (value (first l)) 1 refl (lit< tt)
+word_at l t s (suc (suc zero)) h = low_word s ∙ place-second 64 (value (second l)) (value (first l)) 0 refl
+word_at l t s (suc (suc (suc zero))) h = high_word s ∙ place-second 64 (value (second l)) (value (first l)) 1 refl
+word_at l t s (suc (suc (suc (suc q)))) h = absurd (omega arith)
+
+-- and what the loop has of them
+pub record Held (d : ℕ) (words : List ℕ) (n mask last out p : ℕ) : Type 0 where
+  pub t : Words (first words)
+  pub s : Words (second words)
+  pub turn : Turn d (value (second words)) (value (first words)) n mask last out p
+
+pub held_word : {d : ℕ} {words : List ℕ} {n mask last out p : ℕ} → Held d words n mask last out p
+    → get_or words (n * bit_and (d / 2 ^ p) last / 64) 0
+    ≡ both 64 (value (second words)) (value (first words)) (n * bit_and (d / 2 ^ p) last / 64)
+held_word {words = words} h = word_at words h.t h.s _ (omega (arith, turn-place h.turn))

@@ -10,7 +10,7 @@ mod slides;
 ghost use Rattle.std.specs.Prelude.{◌≡◌, ◌+◌, ◌*◌, ◌/◌, ◌%◌, ◌^◌};
 ghost use Rattle.isa.specs.Widths.{bits};
 ghost use Rattle.memory.specs.Value.{value, register};
-ghost use Rattle.vectors.specs.Register.{element, whole};
+ghost use Rattle.vectors.specs.Register.{build, element, whole};
 ghost use Rattle.permute.specs.Permute.{packed, chosen_by_immediate, chosen_by_control, slid_byte, with_element};
 
 use element::count;
@@ -70,6 +70,23 @@ pub fn vshf(w: Width, d: Register, s: Register, t: Register) -> Register
         low: shuffle::chosen(w, d.low, s, t),
         high: shuffle::chosen(w, d.high, s, t),
     }
+}
+
+// A word of VSHF from the words of ws and wt: a function with many callers takes words in machine registers, and
+// registers through memory.
+pub fn vshf_word(w: Width, d: u64, s_low: u64, s_high: u64, t_low: u64, t_high: u64) -> u64
+    ensures { result ≡ build (bits w) (chosen_by_control (bits w) d (s_low + s_high * 2 ^ 64)
+        (t_low + t_high * 2 ^ 64)) (64 / bits w) }
+{
+    let s = Register {
+        low: s_low,
+        high: s_high,
+    };
+    let t = Register {
+        low: t_low,
+        high: t_high,
+    };
+    shuffle::chosen(w, d, s, t)
 }
 
 // SLD and SLDI, by c columns, taken modulo their number.

@@ -1,11 +1,10 @@
 // VSHF: an element's control chooses it from wt and ws side by side.
-ghost use Rattle.std.specs.Prelude.{◌≡◌, ◌-◌, ◌/◌, ◌<◌};
+ghost use Rattle.std.specs.Prelude.{◌≡◌, ◌-◌, ◌/◌, ◌^◌, ◌<◌};
 ghost use Rattle.isa.specs.Widths.{bits};
 ghost use Rattle.memory.specs.Value.{value};
 ghost use Rattle.vectors.specs.Register.{build};
 ghost use Rattle.permute.specs.Permute as permute;
 
-use element::{count, ones};
 use isa::Width;
 use memory::Register;
 
@@ -20,36 +19,34 @@ pub fn word_of(s: Register, t: Register, q: u64) -> u64
     if q == 2 { s.low } else { s.high }
 }
 
-// The last place in wt and ws side by side.
-fn reach(w: Width) -> u64
-    ensures { result ≡ 256 / bits w - 1 }
-{
-    match w {
-        Width::B => 31,
-        Width::H => 15,
-        Width::W => 7,
-        Width::D => 3,
-    }
-}
-
-// The word that a word of controls chooses, from the lowest element up. All that depends on the width is worked out
-// before the loop.
-pub fn chosen(w: Width, d: u64, s: Register, t: Register) -> u64
+// The word that a word of controls chooses, from the lowest element up. What depends on the width comes as numbers,
+// which are literals at each call: the compiler unrolls the loop for each width. The four words are an array.
+fn picked(w: Width, n: u64, mask: u64, last: u64, d: u64, s: Register, t: Register) -> u64
+    requires { (n ≡ bits w) × ((mask ≡ 2 ^ bits w - 1) × (last ≡ 256 / bits w - 1)) }
     ensures { result ≡ build (bits w) (permute.chosen_by_control (bits w) d (value s) (value t)) (64 / bits w) }
 {
-    let n = count(w);
-    let mask = ones(w);
-    let last = reach(w);
+    let words = [t.low, t.high, s.low, s.high];
     let mut out = 0u64;
     let mut p = 0u64;
     while p < 64 {
         let c = d >> p;
         if c / 64 % 4 == 0 {
             let a = n * (c & last);
-            let x = (word_of(s, t, a / 64) >> (a % 64)) & mask;
+            let x = (words[(a / 64) as usize] >> (a % 64)) & mask;
             out = out + (x << p);
         }
         p += n;
     }
     out
+}
+
+pub fn chosen(w: Width, d: u64, s: Register, t: Register) -> u64
+    ensures { result ≡ build (bits w) (permute.chosen_by_control (bits w) d (value s) (value t)) (64 / bits w) }
+{
+    match w {
+        Width::B => picked(Width::B, 8, 0xFF, 31, d, s, t),
+        Width::H => picked(Width::H, 16, 0xFFFF, 15, d, s, t),
+        Width::W => picked(Width::W, 32, 0xFFFF_FFFF, 7, d, s, t),
+        Width::D => picked(Width::D, 64, 0xFFFF_FFFF_FFFF_FFFF, 3, d, s, t),
+    }
 }

@@ -1,21 +1,19 @@
 // The codes from 56 to 87: products, quotients, dot products, permutes, rounded shifts and sums of halves, which cost
-// more themselves than the way to them. As in `quick`, the old destination is read where an operation needs it.
-ghost use Rattle.std.specs.Prelude.{true, ◌≡◌, ◌+◌, ◌<◌, ◌≤◌, length};
+// more themselves than the way to them. d is the old destination.
+ghost use Rattle.std.specs.Prelude.{true, ◌≡◌, ◌+◌, ◌<◌, ◌≤◌};
 ghost use Rattle.isa.specs.declared.Three.TheVariants as three;
 ghost use Rattle.isa.specs.Widths.{bits};
-ghost use Rattle.memory.specs.File.{register_at};
 ghost use Rattle.memory.specs.Value.{value, register};
 ghost use Rattle.ops.specs.Meaning.{three_at};
 ghost use Rattle.forms.specs.Forms.{three_of};
-ghost use Rattle.entries.specs.Cut.{code_of, width_of, dest_of};
-ghost use Rattle.acts.specs.Act.{vector_of, vreg};
+ghost use Rattle.entries.specs.Cut.{code_of, width_of};
+ghost use Rattle.acts.specs.Act.{vector_of};
 ghost use Rattle.values.specs.Permuted.{permutes};
 
 use element::Reading;
-use entries::parts::{code_of, dest_of, width_of};
-use isa::{Pack, Vreg, Width};
+use entries::parts::{code_of, width_of};
+use isa::{Pack, Width};
 use memory::Register;
-use memory::file::read_register;
 use parallel_bits::shifting;
 use parallel_halves::{hadd, hsub};
 use parallel_products::{division, dot, product};
@@ -48,10 +46,10 @@ fn permuted(c: u64, w: Width, d: Register, s: Register, t: Register) -> Register
     vshf(w, d, s, t)
 }
 
-pub fn seldom(e: u64, s: Register, t: Register, vectors: &[u8]) -> Register
-    requires { (length vectors.now ≡ 512) × (56 ≤ code_of e) × (code_of e < 88) }
-    ensures { result ≡ register (vector_of (code_of e) (bits (width_of e))
-        (register_at vectors.now (vreg (dest_of e))) (value s) (value t)) }
+pub fn seldom(e: u64, d: Register, s: Register, t: Register) -> Register
+    requires { (56 ≤ code_of e) × (code_of e < 88) }
+    ensures { result ≡ register
+        (vector_of (code_of e) (bits (width_of e)) (value d) (value s) (value t)) }
 {
     let w = width_of(e);
     let k = code_of(e);
@@ -60,20 +58,14 @@ pub fn seldom(e: u64, s: Register, t: Register, vectors: &[u8]) -> Register
             low: product::mulv(w, s.low, t.low),
             high: product::mulv(w, s.high, t.high),
         },
-        57 => {
-            let d = read_register(vectors, Vreg(dest_of(e)));
-            Register {
-                low: product::maddv(w, d.low, s.low, t.low),
-                high: product::maddv(w, d.high, s.high, t.high),
-            }
-        }
-        58 => {
-            let d = read_register(vectors, Vreg(dest_of(e)));
-            Register {
-                low: product::msubv(w, d.low, s.low, t.low),
-                high: product::msubv(w, d.high, s.high, t.high),
-            }
-        }
+        57 => Register {
+            low: product::maddv(w, d.low, s.low, t.low),
+            high: product::maddv(w, d.high, s.high, t.high),
+        },
+        58 => Register {
+            low: product::msubv(w, d.low, s.low, t.low),
+            high: product::msubv(w, d.high, s.high, t.high),
+        },
         60 => Register {
             low: division::quotients(w, Reading::Signed, s.low, t.low),
             high: division::quotients(w, Reading::Signed, s.high, t.high),
@@ -98,34 +90,22 @@ pub fn seldom(e: u64, s: Register, t: Register, vectors: &[u8]) -> Register
             low: dot::dotp(w, Reading::Unsigned, s.low, t.low),
             high: dot::dotp(w, Reading::Unsigned, s.high, t.high),
         },
-        66 => {
-            let d = read_register(vectors, Vreg(dest_of(e)));
-            Register {
-                low: dot::dpadd(w, Reading::Signed, d.low, s.low, t.low),
-                high: dot::dpadd(w, Reading::Signed, d.high, s.high, t.high),
-            }
-        }
-        67 => {
-            let d = read_register(vectors, Vreg(dest_of(e)));
-            Register {
-                low: dot::dpadd(w, Reading::Unsigned, d.low, s.low, t.low),
-                high: dot::dpadd(w, Reading::Unsigned, d.high, s.high, t.high),
-            }
-        }
-        68 => {
-            let d = read_register(vectors, Vreg(dest_of(e)));
-            Register {
-                low: dot::dpsub(w, Reading::Signed, d.low, s.low, t.low),
-                high: dot::dpsub(w, Reading::Signed, d.high, s.high, t.high),
-            }
-        }
-        69 => {
-            let d = read_register(vectors, Vreg(dest_of(e)));
-            Register {
-                low: dot::dpsub(w, Reading::Unsigned, d.low, s.low, t.low),
-                high: dot::dpsub(w, Reading::Unsigned, d.high, s.high, t.high),
-            }
-        }
+        66 => Register {
+            low: dot::dpadd(w, Reading::Signed, d.low, s.low, t.low),
+            high: dot::dpadd(w, Reading::Signed, d.high, s.high, t.high),
+        },
+        67 => Register {
+            low: dot::dpadd(w, Reading::Unsigned, d.low, s.low, t.low),
+            high: dot::dpadd(w, Reading::Unsigned, d.high, s.high, t.high),
+        },
+        68 => Register {
+            low: dot::dpsub(w, Reading::Signed, d.low, s.low, t.low),
+            high: dot::dpsub(w, Reading::Signed, d.high, s.high, t.high),
+        },
+        69 => Register {
+            low: dot::dpsub(w, Reading::Unsigned, d.low, s.low, t.low),
+            high: dot::dpsub(w, Reading::Unsigned, d.high, s.high, t.high),
+        },
         81 => Register {
             low: shifting::shift_rounded(w, Reading::Signed, s.low, t.low),
             high: shifting::shift_rounded(w, Reading::Signed, s.high, t.high),
@@ -150,9 +130,6 @@ pub fn seldom(e: u64, s: Register, t: Register, vectors: &[u8]) -> Register
             low: hsub(w, Reading::Unsigned, s.low, t.low),
             high: hsub(w, Reading::Unsigned, s.high, t.high),
         },
-        _ => {
-            let d = read_register(vectors, Vreg(dest_of(e)));
-            permuted(k, w, d, s, t)
-        }
+        _ => permuted(k, w, d, s, t),
     }
 }

@@ -34,6 +34,8 @@ returns-2 c n w k =
     let a = start.args in
     let t = c.before.third.ensures.exact in
     let s = c.before.before.read-register.ensures.exact in
+    let d = c.before.before.read-register2.ensures.exact in
+    let i = c.before.before.before.dest-of.ensures.0 in
     let j = first.source_of.ensures.0 in
     let v = c.seldom.ensures in
     rw (executed-vector n (machine a.vectors.now a.generals.now w k) a.e (omega (arith, start.requires.2))

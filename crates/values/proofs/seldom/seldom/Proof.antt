@@ -12,11 +12,12 @@ use Rattle.isa.specs.declared.Rounding.TheVariants.{Srar, Srlr}
 use Rattle.isa.specs.Widths.{bits}
 use Rattle.lanes.specs.declared.Lane.TheVariants.{Arith, Bit}
 use Rattle.memory.specs.Value.{value, register}
+use Rattle.memory.proofs.Values.{holds}
 use Rattle.ops.specs.Meaning.{three_at}
 use Rattle.each.specs.Lanes.{each_lane}
 use Rattle.acts.specs.Act.{vector_of}
 use Rattle.values.specs.Permuted.{permutes}
-use Rattle.values.proofs.Arms.{of_entry, each2, each3, read_at}
+use Rattle.values.proofs.Arms.{of_entry, each2, each3}
 use Rattle.values.proofs.Unassigned.{left_over, past-logics}
 use Rattle.values.proofs.seldom.seldom.Statement.{statement}
 use Rattle.values.proofs.seldom.seldom.Tie as tie
@@ -39,29 +40,19 @@ seldom_spec =
     (λ c κs. search rules) (λ c κs. search rules) (λ c κs. search rules) (λ c κs. search rules) (λ c κs. search rules)
     (λ c κs. search rules) (λ c κs. search rules) (λ c κs. search rules) (λ c κs. search rules) (λ c κs. search rules)
     (λ c κs. search rules) (λ c κs. search rules) (λ c κs. search rules) (λ c κs. search rules) (λ c κs. search rules)
-    (λ c κs. search rules) (λ c κs. search rules) (λ c κs. search rules) (λ c κs. search rules) (λ c κs. search rules)
-    (λ c κs. search rules) (λ c κs. search rules) (λ c κs. search rules) (λ c κs. search rules) (λ c κs. search rules)
-    (λ c κs. search rules) (λ c κs. search rules) (λ c κs. search rules) (λ c κs. search rules)
     (λ c κs.
-    let rest = c.before.before in
-    let b = rest.before in
-    let pre = b.before.before.before.requires in
-    left_over permutes 56 88 codes refl b.code_of_lem.result (rw b.code_of_lem.ensures.0 pre.1)
-    (rw b.code_of_lem.ensures.0 pre.2) rest.match.rest)
+    let b = c.before in
+    let pre = b.before.before.requires in
+    left_over permutes 56 88 codes refl b.code_of_lem.result (rw b.code_of_lem.ensures.0 pre.0)
+    (rw b.code_of_lem.ensures.0 pre.1) c.match.rest)
     (λ c. let b = c.before.before in each2 _ b.match.keys1 (search rules) b.before.before.width_of_lem.ensures
     (Arith (Product Mulv)) (λ n d s t. refl) c.before.mulv.ensures c.mulv2.ensures)
-    (λ c.
-    let b = c.before.before.before.before in
-    let good = b.before.before.before.before.well-formed.1 in
-    each3 _ b.match.keys2 (search rules) b.before.before.width_of_lem.ensures
-    (read_at _ c.before.before.before.dest-of.ensures.0 c.before.before.read-register.ensures)
-    (Arith (Product Maddv)) (λ n d s t. refl) c.before.maddv.ensures c.maddv2.ensures)
-    (λ c.
-    let b = c.before.before.before.before in
-    let good = b.before.before.before.before.well-formed.1 in
-    each3 _ b.match.keys3 (search rules) b.before.before.width_of_lem.ensures
-    (read_at _ c.before.before.before.dest-of2.ensures.0 c.before.before.read-register2.ensures)
-    (Arith (Product Msubv)) (λ n d s t. refl) c.before.msubv.ensures c.msubv2.ensures)
+    (λ c. let b = c.before.before in each3 _ b.match.keys2 (search rules) b.before.before.width_of_lem.ensures
+    (holds (search rules) refl) (Arith (Product Maddv)) (λ n d s t. refl) c.before.maddv.ensures
+    c.maddv2.ensures)
+    (λ c. let b = c.before.before in each3 _ b.match.keys3 (search rules) b.before.before.width_of_lem.ensures
+    (holds (search rules) refl) (Arith (Product Msubv)) (λ n d s t. refl) c.before.msubv.ensures
+    c.msubv2.ensures)
     (λ c. let b = c.before.before in each2 _ b.match.keys4 (search rules) b.before.before.width_of_lem.ensures
     (Arith (Product DivS)) (λ n d s t. refl) c.before.quotients.ensures c.quotients2.ensures)
     (λ c. let b = c.before.before in each2 _ b.match.keys5 (search rules) b.before.before.width_of_lem.ensures
@@ -74,30 +65,16 @@ seldom_spec =
     (Arith (Dot DotpS)) (λ n d s t. refl) c.before.dotp.ensures c.dotp2.ensures)
     (λ c. let b = c.before.before in each2 _ b.match.keys9 (search rules) b.before.before.width_of_lem.ensures
     (Arith (Dot DotpU)) (λ n d s t. refl) c.before.dotp3.ensures c.dotp4.ensures)
-    (λ c.
-    let b = c.before.before.before.before in
-    let good = b.before.before.before.before.well-formed.1 in
-    each3 _ b.match.keys10 (search rules) b.before.before.width_of_lem.ensures
-    (read_at _ c.before.before.before.dest-of3.ensures.0 c.before.before.read-register3.ensures)
-    (Arith (Dot DpaddS)) (λ n d s t. refl) c.before.dpadd.ensures c.dpadd2.ensures)
-    (λ c.
-    let b = c.before.before.before.before in
-    let good = b.before.before.before.before.well-formed.1 in
-    each3 _ b.match.keys11 (search rules) b.before.before.width_of_lem.ensures
-    (read_at _ c.before.before.before.dest-of4.ensures.0 c.before.before.read-register4.ensures)
-    (Arith (Dot DpaddU)) (λ n d s t. refl) c.before.dpadd3.ensures c.dpadd4.ensures)
-    (λ c.
-    let b = c.before.before.before.before in
-    let good = b.before.before.before.before.well-formed.1 in
-    each3 _ b.match.keys12 (search rules) b.before.before.width_of_lem.ensures
-    (read_at _ c.before.before.before.dest-of5.ensures.0 c.before.before.read-register5.ensures)
-    (Arith (Dot DpsubS)) (λ n d s t. refl) c.before.dpsub.ensures c.dpsub2.ensures)
-    (λ c.
-    let b = c.before.before.before.before in
-    let good = b.before.before.before.before.well-formed.1 in
-    each3 _ b.match.keys13 (search rules) b.before.before.width_of_lem.ensures
-    (read_at _ c.before.before.before.dest-of6.ensures.0 c.before.before.read-register6.ensures)
-    (Arith (Dot DpsubU)) (λ n d s t. refl) c.before.dpsub3.ensures c.dpsub4.ensures)
+    (λ c. let b = c.before.before in each3 _ b.match.keys10 (search rules) b.before.before.width_of_lem.ensures
+    (holds (search rules) refl) (Arith (Dot DpaddS)) (λ n d s t. refl) c.before.dpadd.ensures c.dpadd2.ensures)
+    (λ c. let b = c.before.before in each3 _ b.match.keys11 (search rules) b.before.before.width_of_lem.ensures
+    (holds (search rules) refl) (Arith (Dot DpaddU)) (λ n d s t. refl) c.before.dpadd3.ensures
+    c.dpadd4.ensures)
+    (λ c. let b = c.before.before in each3 _ b.match.keys12 (search rules) b.before.before.width_of_lem.ensures
+    (holds (search rules) refl) (Arith (Dot DpsubS)) (λ n d s t. refl) c.before.dpsub.ensures c.dpsub2.ensures)
+    (λ c. let b = c.before.before in each3 _ b.match.keys13 (search rules) b.before.before.width_of_lem.ensures
+    (holds (search rules) refl) (Arith (Dot DpsubU)) (λ n d s t. refl) c.before.dpsub3.ensures
+    c.dpsub4.ensures)
     (λ c. let b = c.before.before in each2 _ b.match.keys14 (search rules) b.before.before.width_of_lem.ensures
     (Bit (Rounding Srar)) (λ n d s t. refl) c.before.shift-rounded.ensures c.shift-rounded2.ensures)
     (λ c. let b = c.before.before in each2 _ b.match.keys15 (search rules) b.before.before.width_of_lem.ensures
@@ -111,15 +88,10 @@ seldom_spec =
     (λ c. let b = c.before.before in each2 _ b.match.keys19 (search rules) b.before.before.width_of_lem.ensures
     (Arith (Across HsubU)) (λ n d s t. refl) c.before.hsub3.ensures c.hsub4.ensures)
     (λ c.
-    let b = c.before.before.before in
-    let k = b.before.code_of_lem.result in
-    let good = b.before.before.before.before.well-formed.1 in
-    of_entry _ {c = k} refl (search rules) b.before.before.width_of_lem.ensures
+    let b = c.before.before in
+    let a = b.before.before.args in
+    let k = b.code_of_lem.result in
+    of_entry _ {c = k} refl (search rules) b.before.width_of_lem.ensures
     (c.permuted.ensures
-    ∙ ap register (past-logics k (bits b.before.before.width_of_lem.result)
-    (value c.before.read-register7.result)
-    (value b.before.before.before.before.args.s) (value b.before.before.before.before.args.t)
-    (search rules)
-    ∙ ap (λ y. vector_of k (bits b.before.before.width_of_lem.result) y
-    (value b.before.before.before.before.args.s) (value b.before.before.before.before.args.t))
-    (read_at _ c.before.before.dest-of7.ensures.0 c.before.read-register7.ensures).exact))))
+    ∙ ap register (past-logics k (bits b.before.width_of_lem.result) (value a.d) (value a.s) (value a.t)
+    (search rules)))))
