@@ -1,4 +1,6 @@
 // AND, OR, NOR, XOR, BMNZ, BMZ and BSEL on all 128 bits. ANDI.B and the other I8 forms are the same with the immediate in every byte of t.
+#![tactic(auto)]
+
 ghost use Rattle.std.specs.Prelude.{◌≡◌};
 ghost use Rattle.memory.specs.Value.{value, register};
 ghost use Rattle.vectors.specs.Register.{build, element, together};

@@ -1,6 +1,8 @@
 // The order of bytes in memory. A board keeps an element from its least significant byte on, or from its most
 // significant one. A register is turned a word of 64 bits at a time: neighbouring bytes change places, then
 // neighbouring twos, then fours, as far as an element reaches.
+#![tactic(auto)]
+
 ghost use Rattle.std.specs.Prelude.{◌≡◌, ◌<◌, ◌≤◌};
 ghost use Rattle.isa.specs.Widths.{bytes};
 ghost use Rattle.memory.specs.Value.{value, register};
