@@ -66,8 +66,7 @@ fn step_reason(n: u32) -> u64
 }
 
 // One step: a run of one instruction. So the machine stands in one function for both, whose frame they share.
-#[unsafe(no_mangle)]
-pub extern "C" fn msa_step(
+pub fn msa_step(
     program: &[u8],
     program_base: u64,
     table: &[u8],
@@ -103,8 +102,7 @@ pub extern "C" fn msa_step(
 }
 
 // One run of at most budget instructions.
-#[unsafe(no_mangle)]
-pub extern "C" fn msa_run(
+pub fn msa_run(
     program: &[u8],
     program_base: u64,
     table: &[u8],
@@ -137,8 +135,7 @@ pub extern "C" fn msa_run(
 }
 
 // Why the next step would stop, or that it would not.
-#[unsafe(no_mangle)]
-pub extern "C" fn msa_why(
+pub fn msa_why(
     program: &[u8],
     program_base: u64,
     table: &[u8],
@@ -167,8 +164,7 @@ pub extern "C" fn msa_why(
 }
 
 // How large a budget is enough for a run from this counter with a clear slot mark; 0 where none is known.
-#[unsafe(no_mangle)]
-pub extern "C" fn msa_budget(program: &[u8], program_base: u64, counter: u64) -> u32
+pub fn msa_budget(program: &[u8], program_base: u64, counter: u64) -> u32
     ensures { result ≡ budget_of program.now program_base counter }
 {
     budget::forward_budget(program, program_base, counter)

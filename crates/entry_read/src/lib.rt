@@ -22,8 +22,7 @@ fn read_number(short: bool, reason: Reason) -> u32
 }
 
 // One run of at most budget instructions, each taken from the list, which is first filled from the program's words.
-#[unsafe(no_mangle)]
-pub extern "C" fn msa_run_read(
+pub fn msa_run_read(
     program: &[u8],
     program_base: u64,
     table: &[u8],
