@@ -1,5 +1,7 @@
 // Reading a 32-bit word as one instruction, or as 12, 13 or 14: the place of its operation in the table, and the
 // operands that the class there has. `ahead` says of a word only what may stop it.
+#![tactic(auto)]
+
 pub mod ahead;
 pub mod classes;
 pub mod index;

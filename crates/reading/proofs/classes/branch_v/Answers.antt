@@ -1,0 +1,6 @@
+-- `reading::classes::branch_v` meets its contract.
+use borrow.Author.Rules.{rules}
+use Rattle.reading.proofs.classes.branch_v.Goals as goal
+
+pub returns : goal.returns
+returns c = rw (c.offset.ensures, c.vt.ensures) at c.given.ensures
