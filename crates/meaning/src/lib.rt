@@ -1,6 +1,8 @@
 // What the operation at a place of the table does, at the border between the decoded instruction and its meaning: an
 // arm a line of ops/specs/Table.antt, in the order of its lines. The last arm is for the places that are no operation
 // of the class.
+#![tactic(auto)]
+
 ghost use Rattle.std.specs.Prelude.{◌≡◌};
 ghost use Rattle.ops.specs.Meaning.{three_at, indexed_at, imm5_at, bit_at, logic_at};
 ghost use Rattle.ops.specs.Meaning.{copied_at, count_at, memory_at, zero_at, scaled_at, fixed_at};
