@@ -1,5 +1,7 @@
 // All elements of a word of 64 bits at once, with the operations of the machine on the whole word.
 // No sum or difference carries from an element into the next: each is proved to stay inside its element.
+#![tactic(auto)]
+
 ghost use Rattle.std.specs.Prelude.{cond, ◌-◌, ◌/◌, ◌^◌, ltb};
 ghost use Rattle.isa.specs.Widths.{bits};
 ghost use Rattle.element.specs.Value.{top};

@@ -1,0 +1,10 @@
+-- `parallel::clipped::subs_s` meets its contract. The sign of what wraps says where the range was left.
+use borrow.Author.Rules.{rules}
+use mathlib.Core.Path.{refl}
+use Rattle.parallel.proofs.Limits.{subs-lanes}
+use Rattle.parallel.proofs.clipped.subs_s.Goals as goal
+
+pub returns : goal.returns
+returns c = let p = c in let a = p.args in
+    subs-lanes a.w a.s a.t (search rules) (search rules) (search rules) c.limit.ensures
+    c.picked.ensures refl p.subv-r.ensures

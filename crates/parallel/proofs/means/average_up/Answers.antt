@@ -1,0 +1,10 @@
+-- `parallel::means::average_up` meets its contract. The average of the views.
+use borrow.Author.Rules.{rules}
+use lib.Dec.{lit<}
+use Rattle.parallel.proofs.Halves.{average-lanes}
+use Rattle.parallel.proofs.means.average_up.Goals as goal
+
+pub returns : goal.returns
+returns c = let p = c in let a = p.args in
+    average-lanes a.w a.g a.s a.t 1 (lit< tt) p.viewed.ensures p.viewed-2.ensures
+    c.mean_up.ensures c.viewed-3.ensures

@@ -1,0 +1,13 @@
+-- `parallel::wrapping::addv` meets its contract. A word of one element is the lane.
+use borrow.Author.Rules.{rules}
+use Rattle.linear.specs.Sums.{addv}
+use Rattle.parallel.proofs.Whole.{one_lane}
+use Rattle.parallel.proofs.wrapping.addv.Goals as goal
+
+pub returns-in-D : goal.returns-in-D
+returns-in-D c = let told = c in
+    let e = rw told.in-D.is at c.addv.ensures in
+    rw told.in-D.is (one_lane (addv 64) (search rules) (search rules) (search rules) e)
+
+pub returns-in_default : goal.returns-in_default
+returns-in_default c = c.sum.ensures

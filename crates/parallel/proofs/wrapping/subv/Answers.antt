@@ -1,0 +1,13 @@
+-- `parallel::wrapping::subv` meets its contract. A word of one element is the lane.
+use borrow.Author.Rules.{rules}
+use Rattle.linear.specs.Sums.{subv}
+use Rattle.parallel.proofs.Whole.{one_lane}
+use Rattle.parallel.proofs.wrapping.subv.Goals as goal
+
+pub returns-in-D : goal.returns-in-D
+returns-in-D c = let told = c in
+    let e = rw told.in-D.is at c.subv.ensures in
+    rw told.in-D.is (one_lane (subv 64) (search rules) (search rules) (search rules) e)
+
+pub returns-in_default : goal.returns-in_default
+returns-in_default c = c.difference.ensures
