@@ -1,4 +1,6 @@
 // Writing an instruction as its 32-bit word, or refusal 6.
+#![tactic(auto)]
+
 mod layouts;
 mod places;
 

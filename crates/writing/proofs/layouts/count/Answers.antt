@@ -1,0 +1,6 @@
+-- `writing::layouts::count` meets its contract.
+use borrow.Author.Rules.{rules}
+use Rattle.writing.proofs.layouts.count.Goals as goal
+
+pub returns : goal.returns
+returns c = rw c.formed.ensures at c.two.ensures

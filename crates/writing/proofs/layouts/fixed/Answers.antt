@@ -1,0 +1,6 @@
+-- `writing::layouts::fixed` meets its contract.
+use borrow.Author.Rules.{rules}
+use Rattle.writing.proofs.layouts.fixed.Goals as goal
+
+pub returns : goal.returns
+returns c = rw (c.hw_code.ensures, c.formed.ensures)

@@ -1,0 +1,6 @@
+-- `writing::layouts::formed` meets its contract.
+use borrow.Author.Rules.{rules}
+use Rattle.writing.proofs.layouts.formed.Goals as goal
+
+pub returns : goal.returns
+returns c = rw (c.has_form.ensures, c.of_class.ensures)

@@ -1,0 +1,6 @@
+-- `writing::layouts::scaled` meets its contract.
+use borrow.Author.Rules.{rules}
+use Rattle.writing.proofs.layouts.scaled.Goals as goal
+
+pub returns : goal.returns
+returns c = rw c.of_class.ensures

@@ -1,0 +1,6 @@
+-- `writing::layouts::three` meets its contract.
+use borrow.Author.Rules.{rules}
+use Rattle.writing.proofs.layouts.three.Goals as goal
+
+pub returns : goal.returns
+returns c = rw c.formed.ensures at c.five.ensures
