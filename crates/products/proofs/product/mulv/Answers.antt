@@ -1,0 +1,10 @@
+-- `products::product::mulv` meets its contract. The low bits of the low 64 bits.
+use Rattle.std.proofs.Common.{◌*◌, ◌∙◌, rules}
+use Rattle.element.proofs.Widths.{low-low}
+use Rattle.products.specs.Products.{mulv}
+use Rattle.products.proofs.product.mulv.Goals as goal
+
+pub returns : goal.returns
+unfolding mulv
+returns c = let a = c.args in
+    c.low.ensures ∙ rw c.mul64.ensures (low-low a.w (a.s * a.t))
