@@ -1,6 +1,8 @@
 // One element at a width: the fixed-point multiplies of Table 4.7. All six are one product and one sum of views, over
 // the width, the rounding, the sign of the product and the old element. In formats up to W these have at most 64 bits.
 // The sum has one caller, and what tells the six apart is worked out before it: so the compiler keeps it in one piece.
+#![tactic(auto)]
+
 ghost use Rattle.std.specs.Prelude.{◌≡◌, ◌^◌, ◌<◌, ◌≤◌};
 ghost use Rattle.isa.specs.Widths.{bits};
 ghost use Rattle.element.specs.Elements.{Elements};

@@ -4,7 +4,7 @@ use Rattle.std.proofs.Common.{◌≡◌, ℕ, ◌-◌, ◌^◌, ◌<◌, Bool, t
 use Rattle.element.specs.declared.Reading.TheVariants.{Unsigned, Signed}
 use Rattle.element.specs.Value.{top, wrap}
 use Rattle.element.proofs.Widths.{Size, sized}
-use Rattle.products.specs.ByZero.{Division, div-s, div-u, mod-s, mod-u, by_zero, Divides}
+use Rattle.products.specs.ByZero.{div-s, div-u, mod-s, mod-u, by_zero, Divides}
 use Rattle.products.specs.Products.{quotient, remainder}
 use Rattle.products.specs.Signs.{by_sign}
 use Rattle.products.proofs.Quotient.{plus-is, minus_is, sign, quotient-zero, remainder-zero}

@@ -1,6 +1,5 @@
 -- `products::division::amount` meets its contract. Each arm knows the reading.
 use Rattle.element.specs.Value.{magnitude}
-use Rattle.std.proofs.Common.{rules}
 use Rattle.products.proofs.division.amount.Goals as goal
 
 pub returns-in-Signed : goal.returns-in-Signed

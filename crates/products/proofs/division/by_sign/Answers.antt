@@ -2,7 +2,7 @@
 use Rattle.element.proofs.Widths.{size}
 use Rattle.isa.specs.Widths.{bits}
 use Rattle.products.proofs.Quotient.{minus_is, minus-zero, plus-is}
-use Rattle.std.proofs.Common.{arith, rules}
+use Rattle.std.proofs.Common.{arith}
 use Rattle.products.proofs.division.by_sign.Goals as goal
 
 pub returns-then-m-eq0 : goal.returns-then-m-eq0

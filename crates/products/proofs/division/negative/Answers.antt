@@ -1,7 +1,7 @@
 -- `products::division::negative` meets its contract. The sign is the test on the top bit.
 use Rattle.isa.specs.Widths.{bits}
 use Rattle.products.proofs.Quotient.{sign}
-use Rattle.std.proofs.Common.{not, ltb, ap, rules}
+use Rattle.std.proofs.Common.{not, ltb, ap}
 use Rattle.products.proofs.division.negative.Goals as goal
 
 pub returns-in-Signed : goal.returns-in-Signed

@@ -1,5 +1,5 @@
 -- `products::division::remainder` meets its contract. By sign and absolute value.
-use Rattle.std.proofs.Common.{◌≡◌, not, sym, lt_of_le_of_lt, arith, rules}
+use Rattle.std.proofs.Common.{◌≡◌, not, sym, lt_of_le_of_lt, arith}
 use lib.Signed.{non_neg}
 use Rattle.element.specs.Value.{value}
 use Rattle.element.proofs.Widths.{size}

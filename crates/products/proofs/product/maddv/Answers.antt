@@ -1,5 +1,5 @@
 -- `products::product::maddv` meets its contract. The ring view.
-use Rattle.std.proofs.Common.{sym, rules}
+use Rattle.std.proofs.Common.{sym}
 use Rattle.products.proofs.Ring.{maddv-form}
 use Rattle.products.proofs.product.maddv.Goals as goal
 

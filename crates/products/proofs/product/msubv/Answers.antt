@@ -1,5 +1,5 @@
 -- `products::product::msubv` meets its contract. The ring view.
-use Rattle.std.proofs.Common.{sym, rules}
+use Rattle.std.proofs.Common.{sym}
 use Rattle.products.proofs.Ring.{msubv-form}
 use Rattle.products.proofs.product.msubv.Goals as goal
 

@@ -1,5 +1,5 @@
 -- `products::product::mulv` meets its contract. The low bits of the low 64 bits.
-use Rattle.std.proofs.Common.{◌*◌, ◌∙◌, rules}
+use Rattle.std.proofs.Common.{◌*◌, ◌∙◌}
 use Rattle.element.proofs.Widths.{low-low}
 use Rattle.products.specs.Products.{mulv}
 use Rattle.products.proofs.product.mulv.Goals as goal
