@@ -1,4 +1,6 @@
 // What the listing shows of an instruction: which mnemonic and format, and which operands in which order.
+#![tactic(auto)]
+
 mod classes;
 mod numbers;
 
