@@ -2,6 +2,8 @@
 // word i of n, with a clear slot mark, it finishes at most n - i instructions, and budget n - i + 1 never answers 20.
 // That is a theorem over the definition's steps (crate demands, Forward); here the program's words are looked at and
 // the number is worked out. Nothing is run.
+#![tactic(auto)]
+
 ghost use Rattle.std.specs.Prelude.{◌≡◌, ◌+◌, ◌/◌, ◌≤◌, length};
 ghost use Rattle.reading.specs.Reading.{read_of};
 ghost use Rattle.budget.specs.Budget.{ahead, forward, forward_to, words, from_word, budget_of};

@@ -1,0 +1,41 @@
+-- `budget::all_forward`. The invariant: the words before i all go forward.
+use Rattle.reading.specs.Reading.{read_of}
+use Rattle.budget.specs.Budget.{forward, forward_to, words}
+use Rattle.budget.proofs.BudgetLaws.{forward-none, forward-more, forward-not}
+use borrow.Author.Rules.{rules}
+use mathlib.Core.Bool.{true}
+use mathlib.Core.Path.{◌≡◌, sym, ap, ◌∙◌}
+use native.Mathlib.Omega.{arith}
+use Prim.Native.Nat.{◌-◌, ◌≤◌}
+use Rattle.budget.proofs.all_forward.Goals as goal
+
+pub loop-i-init : goal.loop-i-init
+loop-i-init c = (omega arith, forward-none _)
+
+pub returns-else-word_forward : goal.returns-else-word_forward
+returns-else-word_forward c =
+    let called = c in
+    let word = called in
+    let test = word in
+    let back =
+    ap (λ w. forward (read_of w)) (sym word.four.ensures) ∙ sym called.word_forward.ensures ∙ c.if-word_forward.false
+    in
+    let inside = test.loop-i-test.true in
+    sym (forward-not _ _ test.loop-i.i (omega arith) back)
+
+pub loop-i-preserved : goal.loop-i-preserved
+loop-i-preserved c =
+    let called = c in
+    let word = called in
+    let l = word.loop-i in
+    let ahead =
+    ap (λ w. forward (read_of w)) (sym word.four.ensures) ∙ sym called.word_forward.ensures ∙ c.if-word_forward.true
+    in
+    (omega arith, forward-more _ l.i l.invariant.1 ahead)
+
+pub returns : goal.returns
+returns c =
+    let l = c.loop-i in
+    let a = c.args in
+    let all : l.i ≡ words a.program.now = omega (arith, l.invariant.0, c.loop-i-test.false) in
+    sym (rw all at l.invariant.1)

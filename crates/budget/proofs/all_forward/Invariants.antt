@@ -1,0 +1,16 @@
+-- `budget::all_forward`. The invariant: the words before i all go forward.
+use Rattle.reading.specs.Reading.{read_of}
+use Rattle.budget.specs.Budget.{forward, forward_to, words}
+use Rattle.budget.proofs.BudgetLaws.{forward-none, forward-more, forward-not}
+use borrow.Author.Rules.{rules}
+use mathlib.Core.Bool.{true}
+use mathlib.Core.Path.{◌≡◌, sym, ap, ◌∙◌}
+use native.Mathlib.Omega.{arith}
+use Prim.Native.Nat.{◌-◌, ◌≤◌}
+use Rattle.budget.proofs.all_forward.Given as goal
+
+abbrev pub invariant-loop-i : goal.invariant-loop-i
+invariant-loop-i l = (l.i ≤ l.words) × (forward_to l.program l.i ≡ true)
+
+abbrev pub decreases-loop-i : goal.decreases-loop-i
+decreases-loop-i l = l.words - l.i
