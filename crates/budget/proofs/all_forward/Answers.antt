@@ -14,23 +14,14 @@ loop-i-init c = (omega arith, forward-none _)
 
 pub returns-else-word_forward : goal.returns-else-word_forward
 returns-else-word_forward c =
-    let called = c in
-    let word = called in
-    let test = word in
-    let back =
-    ap (λ w. forward (read_of w)) (sym word.four.ensures) ∙ sym called.word_forward.ensures ∙ c.if-word_forward.false
-    in
-    let inside = test.loop-i-test.true in
-    sym (forward-not _ _ test.loop-i.i (omega arith) back)
+    let back = ap (λ w. forward (read_of w)) (sym c.four.ensures) ∙ sym c.word_forward.ensures ∙ c.if-word_forward.false in
+    let inside = c.loop-i-test.true in
+    sym (forward-not _ _ c.loop-i.i (omega arith) back)
 
 pub loop-i-preserved : goal.loop-i-preserved
 loop-i-preserved c =
-    let called = c in
-    let word = called in
-    let l = word.loop-i in
-    let ahead =
-    ap (λ w. forward (read_of w)) (sym word.four.ensures) ∙ sym called.word_forward.ensures ∙ c.if-word_forward.true
-    in
+    let l = c.loop-i in
+    let ahead = ap (λ w. forward (read_of w)) (sym c.four.ensures) ∙ sym c.word_forward.ensures ∙ c.if-word_forward.true in
     (omega arith, forward-more _ l.i l.invariant.1 ahead)
 
 pub returns : goal.returns
