@@ -1,8 +1,10 @@
 // Counts the words of major opcode 011110 by what they read as. No class is told by bits 15..6, so one word stands for the
 // 1,024 that differ from it there: 65,536 words are read, one for each value of bits 25..16 and 5..0.
+#![tactic(auto)]
+
 use isa::{Read, Unread};
 use reading::read_word;
-use std::num::wrapping_add_u64;
+use std::io;
 
 #[derive(Clone, Copy)]
 struct Counts {
@@ -17,7 +19,7 @@ fn word_at(k: u32) -> u32 {
 }
 
 fn more(n: u64) -> u64 {
-    wrapping_add_u64(n, 1024)
+    n.wrapping_add(1024)
 }
 
 fn refused(c: Counts, u: Unread) -> Counts {
@@ -55,10 +57,9 @@ fn counted(c: Counts, r: Read) -> Counts {
     }
 }
 
-fn line(name: &[u8], n: u64) {
-    io::write_all(1, name);
-    io::print_decimal(1, n);
-    io::write_all(1, b"\n");
+fn line(rt: &impl Print, name: &[u8], n: u64) -> io::Result<()> {
+    rt.write_all(name)?;
+    println!(rt; "{n}")
 }
 
 fn count_all() -> Counts {
@@ -76,10 +77,10 @@ fn count_all() -> Counts {
     c
 }
 
-fn main() {
+fn main(rt: HostRuntime) -> io::Result<()> {
     let c = count_all();
-    line(b"read ", c.read);
-    line(b"13 ", c.left_out);
-    line(b"12 ", c.unassigned);
-    line(b"14 ", c.other);
+    line(&rt, b"read ", c.read)?;
+    line(&rt, b"13 ", c.left_out)?;
+    line(&rt, b"12 ", c.unassigned)?;
+    line(&rt, b"14 ", c.other)
 }

@@ -1,4 +1,8 @@
 // The listing program on 4,096 words and a byte more: it lists the words, says that there is more, and ends.
-fn main() {
-    lister::list_input();
+#![tactic(auto)]
+
+use std::io;
+
+fn main(rt: HostRuntime) -> io::Result<()> {
+    lister::list_input(&mut rt.reader(), &mut io::writer(&rt))
 }

@@ -1,8 +1,11 @@
 // Runs the lines of standard input through write_line, and counts how many agree, blanks and length too.
 // tools/list_vectors.py says what stands in a record of 73 bytes.
+#![tactic(auto)]
+
 use line_writer::write_line;
 use listing::Line;
-use std::num::wrapping_add_u64;
+use std::io;
+use streams::read_full;
 
 fn half_of(a: u8, b: u8) -> u16 {
     a as u16 + b as u16 * 256
@@ -16,7 +19,7 @@ fn word_of(a: u8, b: u8, c: u8, d: u8) -> u32 {
 fn refuses(address: u32, word: u32) -> bool {
     let mut short = [7u8; 63];
     match write_line(&mut short, address, word) {
-        Line::Refused => check::same(&short, &[7u8; 63]),
+        Line::Refused => short == [7u8; 63],
         Line::Length(_) => false,
     }
 }
@@ -28,32 +31,29 @@ fn agrees(r: [u8; 73]) -> bool {
     match write_line(&mut line, address, word) {
         Line::Refused => false,
         Line::Length(n) => {
-            n == r[8] as usize && check::same(&line, &r[9..]) && refuses(address, word)
+            n == r[8] as usize && line.as_slice() == &r[9..] && refuses(address, word)
         }
     }
 }
 
 fn counted(n: u64, yes: bool) -> u64 {
-    if yes { wrapping_add_u64(n, 1) } else { n }
+    if yes { n.wrapping_add(1) } else { n }
 }
 
-fn main() {
+fn main(rt: HostRuntime) -> io::Result<()> {
+    let mut input = rt.reader();
     let mut agree: u64 = 0;
     let mut cases: u64 = 0;
     let mut turns: u32 = 100000;
     while 0 < turns {
         turns -= 1;
         let mut r = [0u8; 73];
-        if io::read_full(0, &mut r) < 73 {
+        if read_full(&mut input, &mut r)? < 73 {
             turns = 0;
         } else {
             agree = counted(agree, agrees(r));
             cases = counted(cases, true);
         }
     }
-    io::write_all(1, b"lines: ");
-    io::print_decimal(1, agree);
-    io::write_all(1, b" of ");
-    io::print_decimal(1, cases);
-    io::write_all(1, b" agree\n");
+    println!(rt; "lines: {agree} of {cases} agree")
 }

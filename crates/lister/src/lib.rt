@@ -1,7 +1,12 @@
-// Lists the little-endian words of standard input, base 0: one line a word, then what is left over. A library, so that the gate can run it on
+// Lists the little-endian words of an input, base 0: one line a word, then what is left over. A library, so that the gate can run it on
 // more than one input: the programs `list` and `list_long` do nothing else.
+#![tactic(auto)]
+
 use line_writer::write_line;
 use listing::Line;
+use std::io;
+use std::io::{Read, Write};
+use streams::read_full;
 
 fn half_of(a: u8, b: u8) -> u16 {
     a as u16 + b as u16 * 256
@@ -11,45 +16,44 @@ fn word_of(b: [u8; 4]) -> u32 {
     half_of(b[0], b[1]) as u32 + half_of(b[2], b[3]) as u32 * 65536
 }
 
-fn print_line(address: u32, word: u32) {
+fn print_line<W: Write>(output: &mut W, address: u32, word: u32) -> io::Result<()> {
     let mut line = [0u8; 64];
     match write_line(&mut line, address, word) {
-        Line::Refused => {}
+        Line::Refused => Ok(()),
         Line::Length(n) => {
-            io::write_all(1, &line[..n]);
-            io::write_all(1, b"\n");
+            output.write_all(&line[..n])?;
+            output.write_all(b"\n")
         }
     }
 }
 
-fn print_over(n: usize) {
+fn print_over<W: Write>(output: &mut W, n: usize) -> io::Result<()> {
     if 0 < n {
-        io::write_all(1, b"; ");
-        io::print_decimal(1, n as u64);
-        io::write_all(1, b" bytes over\n");
+        return writeln!(output, "; {n} bytes over");
     }
+    Ok(())
 }
 
 // After 4,096 words.
-fn print_more() {
+fn print_more<R: Read, W: Write>(input: &mut R, output: &mut W) -> io::Result<()> {
     let mut byte = [0u8; 1];
-    if 0 < io::read_full(0, &mut byte) {
-        io::write_all(1, b"; more\n");
+    if 0 < read_full(input, &mut byte)? {
+        return output.write_all(b"; more\n");
     }
+    Ok(())
 }
 
-// Answers nothing: what it promises is that it is safe and ends.
-pub fn list_input() {
+// What it promises is that it is safe and ends.
+pub fn list_input<R: Read, W: Write>(input: &mut R, output: &mut W) -> io::Result<()> {
     let mut address: u32 = 0;
     while address < 16384 {
         let mut bytes = [0u8; 4];
-        let n = io::read_full(0, &mut bytes);
+        let n = read_full(input, &mut bytes)?;
         if n < 4 {
-            print_over(n);
-            return;
+            return print_over(output, n);
         }
-        print_line(address, word_of(bytes));
+        print_line(output, address, word_of(bytes))?;
         address += 4;
     }
-    print_more();
+    print_more(input, output)
 }

@@ -1,7 +1,9 @@
 // Runs the cases of shared/vectors/after-2/ops.txt, one instruction on registers alone each, in the form that
 // tools/ops_cases.py writes: a step of a program of one word. Prints how many leave every register as the case says.
 // After them, the same for corners-ops.txt of that folder and for tools/examples.txt.
-ghost use Rattle.std.specs.Prelude.{◌≡◌, ◌≤◌, length};
+#![tactic(auto)]
+
+ghost use Rattle.std.specs.Prelude.{◌≡◌, ◌≤◌, length, IfOk};
 
 use isa::Vreg;
 use machine::step::{Answer, Outcome, step};
@@ -10,6 +12,9 @@ use memory::{eight, put_eight, sixteen};
 use order::Order;
 use state::board::Board;
 use state::control::{Control, Mark};
+use std::io;
+use std::io::Read;
+use streams::read_full;
 
 fn set_vector(v: &mut [u8], number: u8, r: [u8; 100], at: usize)
     requires { (length v.old ≡ 512) × (at ≤ 84) }
@@ -82,54 +87,56 @@ fn agrees(r: [u8; 100]) -> bool {
     let mut want_v = v;
     let mut want_g = g;
     set_result(&mut want_v, &mut want_g, r);
-    steps(&word, &mut v, &mut g) & check::same(&v, &want_v) & check::same(&g, &want_g)
+    steps(&word, &mut v, &mut g) & (v == want_v) & (g == want_g)
 }
 
-fn next_case() -> bool {
+fn next_case<R: Read>(input: &mut R) -> io::Result<bool> {
     let mut r = [0u8; 100];
-    if io::read_full(0, &mut r) < 100 {
-        return false;
+    if read_full(input, &mut r)? < 100 {
+        return Ok(false);
     }
-    agrees(r)
+    Ok(agrees(r))
 }
 
 // The number of cases of the next part.
-fn announced() -> u64 {
+fn announced<R: Read>(input: &mut R) -> io::Result<u64> {
     let mut b = [0u8; 8];
-    let n = io::read_full(0, &mut b);
+    let n = read_full(input, &mut b)?;
     if n < 8 {
-        return 0;
+        return Ok(0);
     }
-    eight(&b, 0)
+    Ok(eight(&b, 0))
 }
 
 // How many of the next n cases agree.
-fn agreeing(n: u64) -> u64
-    ensures { result ≤ n }
+fn agreeing<R: Read>(input: &mut R, n: u64) -> io::Result<u64>
+    ensures { IfOk result (λ agreed. agreed ≤ n) }
 {
     let mut agreed = 0u64;
     let mut i = 0u64;
     while i < n {
-        if next_case() {
+        if next_case(input)? {
             agreed += 1;
         }
         i += 1;
     }
-    agreed
+    Ok(agreed)
 }
 
-fn report(n: u64) {
-    io::print_decimal(1, agreeing(n));
-    io::write_all(1, b" of ");
-    io::print_decimal(1, n);
-    io::write_all(1, b" agree\n");
+fn report<R: Read>(rt: &impl Print, input: &mut R, n: u64) -> io::Result<()> {
+    let agreed = agreeing(input, n)?;
+    println!(rt; "{agreed} of {n} agree")
 }
 
-fn main() {
-    io::write_all(1, b"ops.txt: ");
-    report(announced());
-    io::write_all(1, b"corners: ");
-    report(announced());
-    io::write_all(1, b"examples and sums: ");
-    report(announced());
+fn main(rt: HostRuntime) -> io::Result<()> {
+    let mut input = rt.reader();
+    print!(rt; "ops.txt: ")?;
+    let n = announced(&mut input)?;
+    report(&rt, &mut input, n)?;
+    print!(rt; "corners: ")?;
+    let n = announced(&mut input)?;
+    report(&rt, &mut input, n)?;
+    print!(rt; "examples and sums: ")?;
+    let n = announced(&mut input)?;
+    report(&rt, &mut input, n)
 }

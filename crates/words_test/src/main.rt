@@ -1,12 +1,15 @@
 // Runs the cases of standard input, and counts how many agree: the line of a word, and the word of an instruction.
 // tools/words_vectors.py says what stands in a record of 32 bytes.
+#![tactic(auto)]
+
 mod built;
 
 use crate::built::{half_of, instr_of};
 use isa::Written;
 use line_writer::write_line;
 use listing::Line;
-use std::num::wrapping_add_u64;
+use std::io;
+use streams::read_full;
 use writing::write_word;
 
 // Decode, encode and skipped cases, first of the random files and then of the corners; the last are encode cases of our
@@ -26,7 +29,7 @@ fn decodes(r: [u8; 32]) -> bool {
     let mut line = [0u8; 64];
     match write_line(&mut line, 0, word_of(r)) {
         Line::Refused => false,
-        Line::Length(n) => n == r[5] as usize && check::same(&line[19..45], &r[6..]),
+        Line::Length(n) => n == r[5] as usize && &line[19..45] == &r[6..],
     }
 }
 
@@ -38,7 +41,7 @@ fn encodes(r: [u8; 32]) -> bool {
 }
 
 fn counted(n: u64, yes: bool) -> u64 {
-    if yes { wrapping_add_u64(n, 1) } else { n }
+    if yes { n.wrapping_add(1) } else { n }
 }
 
 fn tallied(t: Tally, r: [u8; 32]) -> Tally {
@@ -55,35 +58,29 @@ fn tallied(t: Tally, r: [u8; 32]) -> Tally {
     Tally { agree, cases }
 }
 
-fn line(name: &[u8], agree: u64, cases: u64) {
-    io::write_all(1, name);
-    io::print_decimal(1, agree);
-    io::write_all(1, b" of ");
-    io::print_decimal(1, cases);
-    io::write_all(1, b" agree\n");
+fn line(rt: &impl Print, name: &[u8], agree: u64, cases: u64) -> io::Result<()> {
+    rt.write_all(name)?;
+    println!(rt; "{agree} of {cases} agree")
 }
 
-fn skipped(cases: u64) {
-    io::print_decimal(1, cases);
-    io::write_all(
-        1,
-        b" encode cases have a format or a number that no Instr holds\n",
-    );
+fn skipped(rt: &impl Print, cases: u64) -> io::Result<()> {
+    println!(rt; "{cases} encode cases have a format or a number that no Instr holds")
 }
 
-fn report(t: Tally) {
+fn report(rt: &impl Print, t: Tally) -> io::Result<()> {
     let agree = t.agree;
     let cases = t.cases;
-    line(b"decode: ", agree[0], cases[0]);
-    line(b"encode: ", agree[1], cases[1]);
-    skipped(cases[2]);
-    line(b"corners, decode: ", agree[3], cases[3]);
-    line(b"corners, encode: ", agree[4], cases[4]);
-    skipped(cases[5]);
-    line(b"refused of our own: ", agree[7], cases[7]);
+    line(rt, b"decode: ", agree[0], cases[0])?;
+    line(rt, b"encode: ", agree[1], cases[1])?;
+    skipped(rt, cases[2])?;
+    line(rt, b"corners, decode: ", agree[3], cases[3])?;
+    line(rt, b"corners, encode: ", agree[4], cases[4])?;
+    skipped(rt, cases[5])?;
+    line(rt, b"refused of our own: ", agree[7], cases[7])
 }
 
-fn main() {
+fn main(rt: HostRuntime) -> io::Result<()> {
+    let mut input = rt.reader();
     let mut t = Tally {
         agree: [0; 8],
         cases: [0; 8],
@@ -92,11 +89,11 @@ fn main() {
     while 0 < turns {
         turns -= 1;
         let mut r = [0u8; 32];
-        if io::read_full(0, &mut r) < 32 {
+        if read_full(&mut input, &mut r)? < 32 {
             turns = 0;
         } else {
             t = tallied(t, r);
         }
     }
-    report(t);
+    report(&rt, t)
 }
