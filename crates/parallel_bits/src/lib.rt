@@ -1,5 +1,7 @@
 // Shifts, single bits, fields and narrower ranges on all elements of a word at once, with no loop over the elements.
 // The shifts of this file have one amount for all elements.
+#![tactic(auto)]
+
 ghost use Rattle.std.specs.Prelude.{◌-◌, ◌/◌, ◌^◌, ◌<◌};
 ghost use Rattle.isa.specs.Widths.{bits};
 ghost use Rattle.bits.specs.Shifts as shifts;
