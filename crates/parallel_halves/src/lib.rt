@@ -1,5 +1,7 @@
 // HADD and HSUB on all elements of a word at once. A half has room for the carry above it; the halves of signed
 // elements are taken as unsigned numbers in their order, and the sum or difference is turned at the full width after.
+#![tactic(auto)]
+
 ghost use Rattle.std.specs.Prelude.{◌≡◌, ℕ, ◌+◌, ◌-◌, ◌/◌, ◌^◌, ◌<◌};
 ghost use Rattle.isa.specs.Widths.{bits};
 ghost use Rattle.element.specs.Elements.{Elements};

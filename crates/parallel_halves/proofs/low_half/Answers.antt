@@ -6,15 +6,11 @@ use Rattle.parallel.proofs.Words.{own, same-lanes, and-lanes}
 use Prim.Native.Nat.{◌/◌}
 use lib.Bits.{and_mask}
 use Rattle.vectors.specs.Register.{element}
-use Rattle.parallel_halves.proofs.low_half.Statement.{statement}
-use Rattle.parallel_halves.proofs.low_half.Tie as tie
+use Rattle.parallel_halves.proofs.low_half.Goals as goal
 
-returns : tie.Need-returns
+pub returns : goal.returns
 returns c =
-    let a = c.before.args in
+    let a = c.args in
     let share = shares a.w in
     same-lanes share (and-lanes share (own share a.x (search rules)) c.lower.ensures)
     (λ i l. and_mask (element (bits a.w) a.x i) (bits a.w / 2))
-
-pub low_half_spec : {M : Type 1} → statement M
-low_half_spec = tie.close (tie.spec (λ c κs. search rules) returns)

@@ -13,8 +13,7 @@ use Rattle.vectors.proofs.Sizes.{shares}
 use Rattle.parallel.specs.Lanes.{Lanes}
 use Rattle.parallel.proofs.Words.{own, same-lanes, sum-lanes, minus-fits, minus-lanes}
 use Rattle.parallel_halves.proofs.Parts.{top-room, apart-less}
-use Rattle.parallel_halves.proofs.apart.Statement.{statement}
-use Rattle.parallel_halves.proofs.apart.Tie as tie
+use Rattle.parallel_halves.proofs.apart.Goals as goal
 
 module _ (w : Width) {x y h : ℕ} (bx : x < 2 ^ 64) (by : y < 2 ^ 64) (tops : Lanes (bits w) h (λ _. top (bits w)))
     (small : (i : ℕ) → i < 64 / bits w → Elements (bits w / 2) (element (bits w) x i) (element (bits w) y i)) where
@@ -28,23 +27,20 @@ module _ (w : Width) {x y h : ℕ} (bx : x < 2 ^ 64) (by : y < 2 ^ 64) (tops : L
   rest =
       minus-lanes (shares w) more (own (shares w) y by) (λ i l. apart-less w (small i l).first (small i l).second)
 
-add-flipped : tie.Need-overflow-add-flipped
-add-flipped c =
-    let start = c.before in
+pub overflow_add-x : goal.overflow_add-x
+overflow_add-x c =
+    let start = c in
     omega (arith, (more start.args.w (search rules) (search rules) c.tops.ensures start.requires).below)
 
-sub-flipped : tie.Need-overflow-sub-flipped
-sub-flipped c =
-    let start = c.before in
+pub overflow_sub-x : goal.overflow_sub-x
+overflow_sub-x c =
+    let start = c in
     less start.args.w (search rules) (search rules) c.tops.ensures start.requires
 
-returns : tie.Need-returns
+pub returns : goal.returns
 returns c =
-    let start = c.before.before in
+    let start = c in
     let a = start.args in
     let n = bits a.w in
-    let d = rest a.w (search rules) (search rules) c.before.tops.ensures start.requires in
+    let d = rest a.w (search rules) (search rules) c.tops.ensures start.requires in
     same-lanes (shares a.w) c.flipped.ensures (λ i l. ap (flip n) (d.at i l))
-
-pub apart_spec : {M : Type 1} → statement M
-apart_spec = tie.close (tie.spec (λ c κs. search rules) add-flipped sub-flipped (λ c κs. search rules) returns)

@@ -6,16 +6,12 @@ use Rattle.element.proofs.Widths.{half-size}
 use Rattle.vectors.proofs.Sizes.{shares}
 use Rattle.parallel.proofs.Words.{own, same-lanes, xor-lanes}
 use Rattle.parallel.proofs.TopBit.{xor-top}
-use Rattle.parallel_halves.proofs.turned.Statement.{statement}
-use Rattle.parallel_halves.proofs.turned.Tie as tie
+use Rattle.parallel_halves.proofs.turned.Goals as goal
 
-returns : tie.Need-returns
+pub returns : goal.returns
 returns c =
-    let start = c.before in
+    let start = c in
     let a = start.args in
     let share = shares a.w in
     same-lanes share (xor-lanes share (own share a.x (search rules)) c.middle.ensures)
     (λ i l. xor-top (bits a.w / 2) (half-size a.w).part (start.requires i l))
-
-pub turned_spec : {M : Type 1} → statement M
-turned_spec = tie.close (tie.spec (λ c κs. search rules) returns)

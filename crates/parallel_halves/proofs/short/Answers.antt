@@ -1,0 +1,23 @@
+-- `parallel_halves::short` meets its contract. At each width the literal is the number built of one element.
+use borrow.Author.Rules.{rules}
+use mathlib.Core.Path.{refl}
+use Rattle.vectors.specs.Register.{build}
+use Rattle.parallel.proofs.Named.{all-at}
+use Rattle.parallel_halves.proofs.Parts.{short-room}
+use Rattle.parallel_halves.proofs.short.Goals as goal
+
+pub returns-in-B : goal.returns-in-B
+unfolding build
+returns-in-B c = all-at short-room c.in-B.is refl
+
+pub returns-in-H : goal.returns-in-H
+unfolding build
+returns-in-H c = all-at short-room c.in-H.is refl
+
+pub returns-in-W : goal.returns-in-W
+unfolding build
+returns-in-W c = all-at short-room c.in-W.is refl
+
+pub returns-in-D : goal.returns-in-D
+unfolding build
+returns-in-D c = all-at short-room c.in-D.is refl
