@@ -37,8 +37,8 @@ missing += ["label without an edit: " + label for label in sorted(named - gate -
 
 # a record that a contract may be, and the theorem that two answers which meet it are one
 UNIQUE = {
-    "Checks": "one-setup", "Each1": "one-word", "Each2": "one-word", "Each3": "one-word", "Element": "one-element",
-    "Fetches": "one-fetched", "Holds": "one-register", "Lanes": "one-word", "ListedIs": "one-listed",
+    "Checks": "one-setup", "Each1": "one_word", "Each2": "one_word", "Each3": "one_word", "Element": "one-element",
+    "Fetches": "one-fetched", "Holds": "one-register", "Lanes": "one_word", "ListedIs": "one-listed",
     "Lists": "line-unique", "Puts": "put-unique", "Reads": "read-unique", "ReadsTo": "one-read", "RunIs": "one-run",
     "RunsTo": "one-run", "StepIs": "one-advance", "StepsTo": "one-step", "WholeIs": "one-step", "WhyIs": "one-why",
     "Writes": "write-unique",
@@ -46,18 +46,25 @@ UNIQUE = {
 
 
 def open_ends(signature):
-    """What a contract leaves open: `r` for the answer, and the name of each buffer lent for writing."""
+    """What a contract leaves open: the answer, and the name of each buffer lent for writing."""
     head = re.split(r"\n\s+(?:requires|ensures)", signature)[0]
-    left = set(re.findall(r"(\w+): &(?:'\w+ )?mut", head)) | ({"r"} if "->" in head else set())
-    for name, fact in re.findall(r"ensures(?: \w+)? \{ λ (\w+)\. ⌜\s*(.*?)\s*⌝ \}", signature, re.S):
+    left = set(re.findall(r"(\w+): &(?:'\w+ )?mut", head)) | ({"result"} if "->" in head else set())
+    for fact in re.findall(r"ensures(?: \w+)? \{\s*(.*?)\s*\}\s*(?=\n\s*(?:ensures|requires)|$)", signature, re.S):
         record = re.match(r"(?:\w+\.)?([A-Z]\w+) ", fact)
         if record and record.group(1) in UNIQUE:
-            left -= {"r"} if re.search(r"(?<![\w.])%s(?!\w)" % name, fact) else set()
-            left -= {b for b in left if "now (%s .exit)" % b in fact}
-        elif re.match(r"(?:\(let .* in\s+|\(?(?:\([^→]*\) → )?)%s ≡ " % name, fact, re.S):
-            left.discard("r")
-        left -= {b for b in left if re.match(r"now \(%s \.exit\)\s+≡ " % b, fact)}
+            left -= {"result"} if re.search(r"(?<![\w.])result(?!\w)", fact) else set()
+            left -= {b for b in left if "%s.new" % b in fact}
+        elif re.match(r"(?:\(?let .* in\s+|\(?(?:\([^→]*\) → )?)result ≡ ", fact, re.S):
+            left.discard("result")
+        left -= {b for b in left if re.match(r"%s\.new\s+≡ " % b, fact)}
     return left
+
+
+def ungrouped(code):
+    """The code with a `use` line for each name of a group."""
+    def lines(found):
+        return "\n".join("use %s::%s;" % (found.group(1), name.strip()) for name in found.group(2).split(","))
+    return re.sub(r"(?m)^use ([\w:]+)::\{([^{}]*)\};", lines, code)
 
 
 def is_called(function, crate_uses):
@@ -84,10 +91,11 @@ functions = set()
 exceptions = set(re.findall(r"`([\w:]+)`", (re.findall(r"leaves no one answer: (.*)", promises) + [""])[0]))
 paths = sorted(glob.glob("crates/*/src/*.rt"))
 sources = [(path.split("/")[1], os.path.basename(path)[:-3], open(path).read()) for path in paths]
-codes = [(crate, re.sub(r"(?m)^\s*(?://|ghost ).*", "", text)) for crate, _, text in sources]
+codes = [(crate, ungrouped(re.sub(r"(?m)^\s*(?://|ghost ).*", "", text))) for crate, _, text in sources]
 libraries = {crate for crate, name, _ in sources if name == "lib"}
 for crate, name, text in sources:
-    if crate not in libraries:
+    # an archive (NAME_c) exports what its library promises
+    if crate not in libraries or crate.endswith("_c"):
         continue
     path = crate if name == "lib" else crate + "::" + name
     apart = re.sub(r"(?m) \{$", "\n{", text)
