@@ -1,5 +1,7 @@
 // The mnemonics by place. Of each row of the table that has a name the text has a line, a cell for each of its eight
 // places: the name's length, and eight bytes.
+#![tactic(auto)]
+
 ghost use Rattle.std.specs.Prelude.{◌≡◌, ◌+◌, ◌≤◌, length, take, drop};
 ghost use Rattle.ops.specs.Table.{mnemonic};
 ghost use Rattle.text.specs.Text.{Room, Puts};

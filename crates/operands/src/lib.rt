@@ -1,4 +1,6 @@
 // The operands of an instruction, written one behind the other.
+#![tactic(auto)]
+
 ghost use Rattle.std.specs.Prelude.{◌≡◌, ◌++◌};
 ghost use Rattle.text.specs.Text.{bytes, Room, Puts};
 ghost use Rattle.text.specs.Numerals.{decimal};
