@@ -1,5 +1,7 @@
 // Elements that change their places, all of a word at once: PCKEV and PCKOD push every second element of a word
 // together, the interleaves draw the elements of half a word apart, SHF exchanges the quarters of wider elements.
+#![tactic(auto)]
+
 ghost use Rattle.std.specs.Prelude.{◌≡◌, cond, ℕ, ◌+◌, ◌-◌, ◌*◌, ◌/◌, ◌%◌, ◌^◌, ◌<◌, ◌≤◌, eqb};
 ghost use Rattle.isa.specs.Widths.{bits};
 ghost use Rattle.memory.specs.Value.{value};

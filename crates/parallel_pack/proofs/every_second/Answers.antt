@@ -12,58 +12,51 @@ use Rattle.vectors.proofs.ElementLaws.{element-below, build-same}
 use Rattle.vectors.proofs.Wholes.{value_low, value-high}
 use Rattle.parallel.proofs.Words.{made}
 use Rattle.parallel_pack.proofs.Places.{doubles, one_on, half-below, halves-built, element-shift}
-use Rattle.parallel_pack.proofs.every_second.Statement.{statement}
-use Rattle.parallel_pack.proofs.every_second.Tie as tie
+use Rattle.parallel_pack.proofs.every_second.Goals as goal
 
-mul-k : tie.Need-overflow-mul-k
-mul-k c = omega (arith, one_on c.count.ensures c.before.requires.0 c.before.requires.1)
+pub overflow_mul-k : goal.overflow_mul-k
+overflow_mul-k c = omega (arith, one_on c.count.ensures c.requires.0 c.requires.1)
 
-shr-gathered : tie.Need-overflow-shr-gathered
-shr-gathered c = let a = c.before.before in one_on c.before.count.ensures a.requires.0 a.requires.1
+pub overflow_shr-v : goal.overflow_shr-v
+overflow_shr-v c = let a = c in one_on c.count.ensures a.requires.0 a.requires.1
 
-shr-gathered-2 : tie.Need-overflow-shr-gathered-2
-shr-gathered-2 c =
-    let counted = c.before.before.before in
-    one_on counted.count.ensures counted.before.requires.0 counted.before.requires.1
+pub overflow_shr-v-2 : goal.overflow_shr-v-2
+overflow_shr-v-2 c =
+    let counted = c in
+    one_on counted.count.ensures counted.requires.0 counted.requires.1
 
-add-result : tie.Need-overflow-add-result
-add-result c =
-    let top = c.before.before.before.before.before in
+pub overflow_add-result : goal.overflow_add-result
+overflow_add-result c =
+    let top = c in
     let n = bits top.args.w in
     let d = doubles top.args.w top.requires.0 in
-    let low = half-below d _ c.before.before.gathered.ensures (λ i. element-below n _ (i * 2)) in
-    let high = half-below d _ c.gathered2.ensures (λ i. element-below n _ (i * 2)) in
-    let fits : c.gathered2.result * 2 ^ 32 < 2 ^ 64 = omega arith in
+    let low = half-below d _ c.gathered.ensures (λ i. element-below n _ (i * 2)) in
+    let high = half-below d _ c.gathered-2.ensures (λ i. element-below n _ (i * 2)) in
+    let fits : c.gathered-2.result * 2 ^ 32 < 2 ^ 64 = omega arith in
     rw (mod-eq_of_lt fits) (omega arith)
 
-returns : tie.Need-returns
+pub returns : goal.returns
 returns c =
-    let top = c.before.before.before.before.before in
+    let top = c in
     let a = top.args in
     let v = a.v in
     let o = a.o in
     let n = bits a.w in
     let d = doubles a.w top.requires.0 in
-    let counted = c.before.before.before.before.count.ensures in
+    let counted = c.count.ensures in
     let f : ℕ → ℕ = λ i. element n (value v) (i * 2 + o) in
-    let high = half-below d _ c.gathered2.ensures (λ i. element-below n _ (i * 2)) in
-    let fits : c.gathered2.result * 2 ^ 32 < 2 ^ 64 = omega arith in
+    let high = half-below d _ c.gathered-2.ensures (λ i. element-below n _ (i * 2)) in
+    let fits : c.gathered-2.result * 2 ^ 32 < 2 ^ 64 = omega arith in
     let words : Words v = record { low = search rules; high = search rules } in
     rw (mod-eq_of_lt fits)
     (made d.one f
     (halves-built d f
-    ((rw counted at c.before.before.gathered.ensures)
+    ((rw counted at c.gathered.ensures)
     ∙ build-same n (λ i. element n (v.low / 2 ^ (n * o)) (i * 2)) f (32 / n)
     (λ i l. element-shift n v.low o (i * 2)
     ∙ sym (value_low d.one {v = v} words (i * 2 + o) (omega (arith, d.half, top.requires.1)))))
-    ((rw counted at c.gathered2.ensures)
+    ((rw counted at c.gathered-2.ensures)
     ∙ build-same n (λ i. element n (v.high / 2 ^ (n * o)) (i * 2)) (λ i. f (32 / n + i)) (32 / n)
     (λ i l. element-shift n v.high o (i * 2) ∙ sym (value-high d.one {v = v} words (i * 2 + o))
     ∙ ap (element n (value v)) (omega (arith, d.half)))))
     (λ i l. element-below n (value v) (i * 2 + o)))
-
-pub every_second_spec : {M : Type 1} → statement M
-every_second_spec =
-    tie.close (tie.spec
-    (λ c κs. search rules) mul-k shr-gathered (λ c κs. search rules)
-    shr-gathered-2 (λ c κs. search rules) add-result returns)

@@ -7,16 +7,12 @@ use Rattle.isa.specs.Widths.{bits}
 use Rattle.vectors.specs.Register.{element}
 use Rattle.parallel.proofs.Words.{own, same-lanes, and-lanes}
 use Rattle.parallel_pack.proofs.Places.{doubles, even-part}
-use Rattle.parallel_pack.proofs.evens.Statement.{statement}
-use Rattle.parallel_pack.proofs.evens.Tie as tie
+use Rattle.parallel_pack.proofs.evens.Goals as goal
 
-returns : tie.Need-returns
+pub returns : goal.returns
 returns c =
-    let a = c.before.args in
+    let a = c.args in
     let n = bits a.w in
-    let d = doubles a.w c.before.requires in
+    let d = doubles a.w c.requires in
     same-lanes d.two (and-lanes d.two (own d.two a.x (search rules)) c.lower.ensures)
     (λ j l. and_mask (element (n + n) a.x j) n ∙ even-part d a.x (search rules) j l)
-
-pub evens_spec : {M : Type 1} → statement M
-evens_spec = tie.close (tie.spec (λ c κs. search rules) returns)
