@@ -4,6 +4,8 @@
 // `msa_budget` says before either. The second, `msa_run_read`, on copies: with a list that has an entry more than the
 // program has words, which is to stay as it was; and with one fewer, which is to be refused and nothing changed. A step
 // is a run with the budget 1 there. tools/machine_cases.py says what a case is made of.
+#![tactic(auto)]
+
 mod head;
 mod pieces;
 mod second;
@@ -12,6 +14,9 @@ mod tally;
 ghost use Rattle.std.specs.Prelude.{◌≡◌, length};
 
 use crate::tally::Tally;
+use std::io;
+use std::io::{BufReader, Read};
+use streams::{count, read_full};
 
 // Whether `msa_why` says of this memory what the head has.
 fn told(
@@ -72,12 +77,12 @@ fn ran(
     work: &mut [u8],
     control: &mut [u8],
 ) -> bool {
-    let v = io::count(head::length(h, 0), vectors);
-    let g = io::count(head::length(h, 1), generals);
-    let c = io::count(head::length(h, 2), control);
-    let p = io::count(head::length(h, 3), program);
-    let t = io::count(head::length(h, 4), table);
-    let w = io::count(head::length(h, 5), work);
+    let v = count(head::length(h, 0), vectors);
+    let g = count(head::length(h, 1), generals);
+    let c = count(head::length(h, 2), control);
+    let p = count(head::length(h, 3), program);
+    let t = count(head::length(h, 4), table);
+    let w = count(head::length(h, 5), work);
     let enough = sized(h, &program[..p]);
     enough
         & called(
@@ -92,8 +97,8 @@ fn ran(
 }
 
 // Reads the next head over this one.
-fn read_head(h: &mut [u8; 112]) {
-    pieces::patch(h);
+fn read_head<R: Read>(input: &mut R, h: &mut [u8; 112]) -> io::Result<()> {
+    pieces::patch(input, h)
 }
 
 // The registers and the control block of a case, before it or after it.
@@ -113,18 +118,18 @@ fn zeros() -> Held {
 }
 
 // These with the pieces read into their places.
-fn patched(held: Held) -> Held {
+fn patched<R: Read>(input: &mut R, held: Held) -> io::Result<Held> {
     let mut vectors = held.vectors;
     let mut generals = held.generals;
     let mut control = held.control;
-    pieces::patch(&mut vectors);
-    pieces::patch(&mut generals);
-    pieces::patch(&mut control);
-    Held {
+    pieces::patch(input, &mut vectors)?;
+    pieces::patch(input, &mut generals)?;
+    pieces::patch(input, &mut control)?;
+    Ok(Held {
         vectors,
         generals,
         control,
-    }
+    })
 }
 
 fn same_held(got: Held, want: Held) -> bool {
@@ -138,19 +143,21 @@ fn same_held(got: Held, want: Held) -> bool {
 }
 
 // Reads the windows before; `want` and `again` have the work window's bytes too.
-fn read_windows(
+fn read_windows<R: Read>(
+    input: &mut R,
     h: [u8; 112],
     program: &mut [u8],
     table: &mut [u8],
     work: &mut [u8],
     want: &mut [u8],
     again: &mut [u8],
-) {
-    pieces::load(program, head::length(h, 3), head::pattern(h, 0));
-    pieces::load(table, head::length(h, 4), head::pattern(h, 1));
-    pieces::load(work, head::length(h, 5), head::pattern(h, 2));
+) -> io::Result<()> {
+    pieces::load(input, program, head::length(h, 3), head::pattern(h, 0))?;
+    pieces::load(input, table, head::length(h, 4), head::pattern(h, 1))?;
+    pieces::load(input, work, head::length(h, 5), head::pattern(h, 2))?;
     pieces::copy(want, work, head::length(h, 5));
     pieces::copy(again, work, head::length(h, 5));
+    Ok(())
 }
 
 // Runs the case on `work` and compares.
@@ -248,7 +255,8 @@ fn short_agrees(
 
 // Reads the contents after, runs the case on both engines and compares. The second has the copy `again` of the work
 // window; the first runs last, so that `work` has the bytes before for the comparison of a list that is too short.
-fn agrees_after(
+fn agrees_after<R: Read>(
+    input: &mut R,
     h: [u8; 112],
     before: Held,
     program: &[u8],
@@ -257,17 +265,18 @@ fn agrees_after(
     want: &mut [u8],
     again: &mut [u8],
     list: &mut [u64],
-) -> bool {
-    let after = patched(before);
-    pieces::patch(want);
+) -> io::Result<bool> {
+    let after = patched(input, before)?;
+    pieces::patch(input, want)?;
     let short = short_agrees(h, before, program, table, again, work, list);
     let second = second_agrees(h, before, after, program, table, again, want, list);
     let first = first_agrees(h, before, after, program, table, work, want);
-    first & second & short
+    Ok(first & second & short)
 }
 
 // Reads the windows of a case before, and goes on with the contents after.
-fn agrees(
+fn agrees<R: Read>(
+    input: &mut R,
     h: [u8; 112],
     before: Held,
     program: &mut [u8],
@@ -276,42 +285,45 @@ fn agrees(
     want: &mut [u8],
     again: &mut [u8],
     list: &mut [u64],
-) -> bool {
-    read_windows(h, program, table, work, want, again);
-    agrees_after(h, before, program, table, work, want, again, list)
+) -> io::Result<bool> {
+    read_windows(input, h, program, table, work, want, again)?;
+    agrees_after(input, h, before, program, table, work, want, again, list)
 }
 
 // Whether a case follows.
-fn more() -> bool {
+fn more<R: Read>(input: &mut R) -> io::Result<bool> {
     let mut b = [0u8; 1];
-    io::read_full(0, &mut b) == 1
+    let n = read_full(input, &mut b)?;
+    Ok(n == 1)
 }
 
 // The head, and the registers and the control block before, are kept from case to case.
-fn replay_all(
+fn replay_all<R: Read>(
+    rt: &impl Print,
+    input: &mut R,
     program: &mut [u8],
     table: &mut [u8],
     work: &mut [u8],
     want: &mut [u8],
     again: &mut [u8],
     list: &mut [u64],
-) -> Tally {
+) -> io::Result<Tally> {
     let mut h = [0u8; 112];
     let mut before = zeros();
     let mut t = tally::none();
     let mut turns: u32 = 65536;
     while 0 < turns {
         turns -= 1;
-        if more() {
-            read_head(&mut h);
-            before = patched(before);
-            let yes = agrees(h, before, program, table, work, want, again, list);
-            t = tally::with(t, h, yes);
+        if more(input)? {
+            read_head(input, &mut h)?;
+            before = patched(input, before)?;
+            let yes = agrees(input, h, before, program, table, work, want, again, list)?;
+            t = tally::with(rt, t, h, yes)?;
         } else {
             turns = 0;
         }
     }
-    t
+    Ok(t)
 }
 
 // One byte more than a window may have.
@@ -328,7 +340,8 @@ fn entries() -> [u64; 65537]
     [0; 65537]
 }
 
-fn main() {
+fn main(rt: HostRuntime) -> io::Result<()> {
+    let mut input = BufReader::new(rt.alloc(), rt.reader())?;
     let mut program = window();
     let mut table = window();
     let mut work = window();
@@ -336,12 +349,14 @@ fn main() {
     let mut again = window();
     let mut list = entries();
     let t = replay_all(
+        &rt,
+        &mut input,
         &mut program,
         &mut table,
         &mut work,
         &mut want,
         &mut again,
         &mut list,
-    );
-    tally::report(t);
+    )?;
+    tally::report(&rt, t)
 }

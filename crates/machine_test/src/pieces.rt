@@ -1,5 +1,9 @@
-// Bytes of lent memory: read in pieces from standard input, copied, compared.
-ghost use Rattle.std.specs.Prelude.{◌<◌};
+// Bytes of lent memory: read in pieces from an input, copied, compared.
+ghost use Rattle.std.specs.Prelude.{◌<◌, IfOk};
+
+use std::io;
+use std::io::Read;
+use streams::{count, read_full};
 
 fn half_of(a: u8, b: u8) -> usize
     ensures { result < 65536 }
@@ -7,38 +11,40 @@ fn half_of(a: u8, b: u8) -> usize
     a as usize + b as usize * 256
 }
 
-fn half() -> usize
-    ensures { result < 65536 }
+fn half<R: Read>(input: &mut R) -> io::Result<usize>
+    ensures { IfOk result (λ n. n < 65536) }
 {
     let mut b = [0u8; 2];
-    io::read_full(0, &mut b);
-    half_of(b[0], b[1])
+    read_full(input, &mut b)?;
+    Ok(half_of(b[0], b[1]))
 }
 
-fn byte() -> usize
-    ensures { result < 65536 }
+fn byte<R: Read>(input: &mut R) -> io::Result<usize>
+    ensures { IfOk result (λ n. n < 65536) }
 {
     let mut b = [0u8; 1];
-    io::read_full(0, &mut b);
-    half_of(b[0], 0)
+    read_full(input, &mut b)?;
+    Ok(half_of(b[0], 0))
 }
 
 // Reads one piece into its place; one that ends past the end is left out, and then the case will differ.
-fn piece(s: &mut [u8]) {
-    let at = half();
-    let n = byte();
+fn piece<R: Read>(input: &mut R, s: &mut [u8]) -> io::Result<()> {
+    let at = half(input)?;
+    let n = byte(input)?;
     let end = at + n;
     if end <= s.len() {
-        io::read_full(0, &mut s[at..end]);
+        read_full(input, &mut s[at..end])?;
     }
+    Ok(())
 }
 
-pub fn patch(s: &mut [u8]) {
-    let mut k = byte();
+pub fn patch<R: Read>(input: &mut R, s: &mut [u8]) -> io::Result<()> {
+    let mut k = byte(input)?;
     while 0 < k {
         k -= 1;
-        piece(s);
+        piece(input, s)?;
     }
+    Ok(())
 }
 
 // The pattern over and over.
@@ -51,10 +57,10 @@ fn fill(s: &mut [u8], pattern: [u8; 4]) {
 }
 
 // Reads a window of n bytes to the start of s.
-pub fn load(s: &mut [u8], n: isize, pattern: [u8; 4]) {
-    let k = io::count(n, s);
+pub fn load<R: Read>(input: &mut R, s: &mut [u8], n: isize, pattern: [u8; 4]) -> io::Result<()> {
+    let k = count(n, s);
     fill(&mut s[..k], pattern);
-    patch(s);
+    patch(input, s)
 }
 
 fn copy_all(to: &mut [u8], from: &[u8]) {
@@ -70,8 +76,8 @@ fn copy_all(to: &mut [u8], from: &[u8]) {
 
 // Copies the first n bytes.
 pub fn copy(to: &mut [u8], from: &[u8], n: isize) {
-    let k = io::count(n, to);
-    let j = io::count(n, from);
+    let k = count(n, to);
+    let j = count(n, from);
     copy_all(&mut to[..k], &from[..j]);
 }
 
@@ -91,7 +97,7 @@ pub fn same(s: &[u8], t: &[u8]) -> bool {
 
 // Whether the first n bytes are the same.
 pub fn same_start(s: &[u8], t: &[u8], n: isize) -> bool {
-    let k = io::count(n, s);
-    let j = io::count(n, t);
+    let k = count(n, s);
+    let j = count(n, t);
     same(&s[..k], &t[..j])
 }

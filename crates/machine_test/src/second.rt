@@ -1,9 +1,10 @@
 // A case through the C entry of the second engine, `msa_run_read`: with a list that has an entry more than the program
 // has words, and with a list that has one fewer.
-ghost use Rattle.io.specs.Counts.{IsPrefixLen};
+ghost use Rattle.streams.specs.Counts.{IsPrefixLen};
 
 use crate::head;
 use entry::MsaEnded;
+use streams::count;
 
 // What an entry holds that a call has to leave.
 const MARK: u64 = 0xa5c3_69f0_1e87_d24b;
@@ -41,12 +42,12 @@ fn called(
     control: &mut [u8],
     list: &mut [u64],
 ) -> MsaEnded {
-    let v = io::count(head::length(h, 0), vectors);
-    let g = io::count(head::length(h, 1), generals);
-    let c = io::count(head::length(h, 2), control);
-    let p = io::count(head::length(h, 3), program);
-    let t = io::count(head::length(h, 4), table);
-    let w = io::count(head::length(h, 5), work);
+    let v = count(head::length(h, 0), vectors);
+    let g = count(head::length(h, 1), generals);
+    let c = count(head::length(h, 2), control);
+    let p = count(head::length(h, 3), program);
+    let t = count(head::length(h, 4), table);
+    let w = count(head::length(h, 5), work);
     entry_read::msa_run_read(
         &program[..p],
         head::base(h, 0),

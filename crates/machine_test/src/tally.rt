@@ -1,7 +1,7 @@
 // The counts: cases that were run and cases that agree, by group, and how often each reason was reached by a case that
 // agrees.
 use crate::head;
-use std::num::wrapping_add_u64;
+use std::io;
 
 #[derive(Clone, Copy)]
 pub struct Tally {
@@ -18,113 +18,85 @@ pub fn none() -> Tally {
     }
 }
 
-fn name(group: u8) {
+fn name(rt: &impl Print, group: u8) -> io::Result<()> {
     match group {
-        0 => {
-            io::write_all(1, b"step");
-        }
-        1 => {
-            io::write_all(1, b"run");
-        }
-        2 => {
-            io::write_all(1, b"kernels");
-        }
-        3 => {
-            io::write_all(1, b"corners, step");
-        }
-        4 => {
-            io::write_all(1, b"corners, run");
-        }
-        5 => {
-            io::write_all(1, b"edges");
-        }
-        6 => {
-            io::write_all(1, b"forms");
-        }
-        7 => {
-            io::write_all(1, b"blocks");
-        }
-        8 => {
-            io::write_all(1, b"why");
-        }
-        9 => {
-            io::write_all(1, b"byte order");
-        }
-        10 => {
-            io::write_all(1, b"fixed point");
-        }
-        _ => {
-            io::write_all(1, b"forward");
-        }
+        0 => rt.write_all(b"step"),
+        1 => rt.write_all(b"run"),
+        2 => rt.write_all(b"kernels"),
+        3 => rt.write_all(b"corners, step"),
+        4 => rt.write_all(b"corners, run"),
+        5 => rt.write_all(b"edges"),
+        6 => rt.write_all(b"forms"),
+        7 => rt.write_all(b"blocks"),
+        8 => rt.write_all(b"why"),
+        9 => rt.write_all(b"byte order"),
+        10 => rt.write_all(b"fixed point"),
+        _ => rt.write_all(b"forward"),
     }
 }
 
-fn differs(h: [u8; 112]) {
-    name(h[0]);
-    io::write_all(1, b" case ");
-    io::print_decimal(1, head::number(h));
-    io::write_all(1, b" differs\n");
+fn differs(rt: &impl Print, h: [u8; 112]) -> io::Result<()> {
+    name(rt, h[0])?;
+    let number = head::number(h);
+    println!(rt; " case {number} differs")
 }
 
 // The tally with one case more.
-pub fn with(t: Tally, h: [u8; 112], agrees: bool) -> Tally {
+pub fn with(rt: &impl Print, t: Tally, h: [u8; 112], agrees: bool) -> io::Result<Tally> {
     let mut cases = t.cases;
     let mut agree = t.agree;
     let mut reached = t.reached;
     let k = (h[0] % 12) as usize;
     let r = (h[8] % 32) as usize;
-    cases[k] = wrapping_add_u64(cases[k], 1);
+    cases[k] = cases[k].wrapping_add(1);
     if agrees {
-        agree[k] = wrapping_add_u64(agree[k], 1);
-        reached[r] = wrapping_add_u64(reached[r], 1);
+        agree[k] = agree[k].wrapping_add(1);
+        reached[r] = reached[r].wrapping_add(1);
     } else {
-        differs(h);
+        differs(rt, h)?;
     }
-    Tally {
+    Ok(Tally {
         cases,
         agree,
         reached,
-    }
+    })
 }
 
-fn line(group: u8, agree: u64, cases: u64) {
-    name(group);
-    io::write_all(1, b": ");
-    io::print_decimal(1, agree);
-    io::write_all(1, b" of ");
-    io::print_decimal(1, cases);
-    io::write_all(1, b" agree\n");
+fn line(rt: &impl Print, group: u8, agree: u64, cases: u64) -> io::Result<()> {
+    name(rt, group)?;
+    println!(rt; ": {agree} of {cases} agree")
 }
 
-fn reason(n: usize, times: u64) {
+fn reason(rt: &impl Print, n: usize, times: u64) -> io::Result<()> {
     if times != 0 {
-        io::write_all(1, b" ");
-        io::print_decimal(1, n as u64);
+        return print!(rt; " {n}");
     }
+    Ok(())
 }
 
-fn lines(agree: [u64; 12], cases: [u64; 12]) {
+fn lines(rt: &impl Print, agree: [u64; 12], cases: [u64; 12]) -> io::Result<()> {
     let mut k: usize = 0;
     while k < 12 {
-        line(k as u8, agree[k], cases[k]);
+        line(rt, k as u8, agree[k], cases[k])?;
         k += 1;
     }
+    Ok(())
 }
 
-fn reasons(reached: [u64; 32]) {
-    io::write_all(1, b"reasons reached:");
+fn reasons(rt: &impl Print, reached: [u64; 32]) -> io::Result<()> {
+    print!(rt; "reasons reached:")?;
     let mut n: usize = 1;
     while n < 32 {
-        reason(n, reached[n]);
+        reason(rt, n, reached[n])?;
         n += 1;
     }
-    io::write_all(1, b"\n");
+    println!(rt; "")
 }
 
-pub fn report(t: Tally) {
+pub fn report(rt: &impl Print, t: Tally) -> io::Result<()> {
     let agree = t.agree;
     let cases = t.cases;
     let reached = t.reached;
-    lines(agree, cases);
-    reasons(reached);
+    lines(rt, agree, cases)?;
+    reasons(rt, reached)
 }
