@@ -1,6 +1,8 @@
 // The counts of Table 4.2 on all elements of a word at once: neighbours' ones are added until an element has its own,
 // and leading zeros are the ones of what is left when ones fill an element from its highest one down. The leading zeros
 // of one or two large elements, and the ones of one, are counted element by element, which takes fewer steps.
+#![tactic(auto)]
+
 ghost use Rattle.std.specs.Prelude.{◌≡◌, ◌+◌, ◌-◌, ◌*◌, ◌/◌, ◌%◌, ◌^◌, ◌<◌};
 ghost use Rattle.std.specs.Int.Bits.{bit_or};
 ghost use Rattle.std.specs.Int.Count as count;

@@ -2,18 +2,17 @@
 use borrow.Author.Rules.{rules}
 use native.Mathlib.Omega.{arith}
 use Rattle.parallel_counts.proofs.Pairs.{half-below, pair-lanes}
-use Rattle.parallel_counts.proofs.paired.Statement.{statement}
-use Rattle.parallel_counts.proofs.paired.Tie as tie
+use Rattle.parallel_counts.proofs.paired.Goals as goal
 
-add-result : tie.Need-overflow-add-result
-add-result c =
+pub overflow_add-result : goal.overflow_add-result
+overflow_add-result c =
     let a = c.args in
     omega (arith, (pair-lanes a.n c.requires.0 a.x a.m (search rules) c.requires.1).below)
 
-returns : tie.Need-returns
+pub returns : goal.returns
 returns c =
     let a = c.args in
     pair-lanes a.n c.requires.0 a.x a.m (search rules) c.requires.1
 
-pub paired_spec : {M : Type 1} → statement M
-paired_spec = tie.close (tie.spec (λ c. half-below c.args.n c.requires.0) add-result returns)
+pub overflow_shr-result : goal.overflow_shr-result
+overflow_shr-result c = half-below c.args.n c.requires.0

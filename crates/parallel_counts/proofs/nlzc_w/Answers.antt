@@ -4,26 +4,22 @@ use Prim.Native.Nat.{ℕ, ◌^◌, ◌<◌}
 use native.Mathlib.Omega.{arith}
 use lib.Count.{count_leading_zeros, leading_le}
 use Rattle.parallel_counts.proofs.Apart.{two_lanes}
-use Rattle.parallel_counts.proofs.nlzc_w.Statement.{statement}
-use Rattle.parallel_counts.proofs.nlzc_w.Tie as tie
+use Rattle.parallel_counts.proofs.nlzc_w.Goals as goal
 
 zeros-below : (x : ℕ) → count_leading_zeros 32 x < 2 ^ 32
 zeros-below x = omega (arith, leading_le 32 x)
 
-add-result : tie.Need-overflow-add-result
-add-result c =
-    let top = c.before.before in
+pub overflow_add-result : goal.overflow_add-result
+overflow_add-result c =
+    let top = c in
     omega (
       arith,
       (two_lanes (count_leading_zeros 32) top.args.s top.ranges.s.fits zeros-below
-          c.before.nlzc.ensures c.nlzc2.ensures).below,
+          c.nlzc-low.ensures c.nlzc-high.ensures).below,
     )
 
-returns : tie.Need-returns
+pub returns : goal.returns
 returns c =
-    let top = c.before.before in
+    let top = c in
     two_lanes (count_leading_zeros 32) top.args.s top.ranges.s.fits zeros-below
-    c.before.nlzc.ensures c.nlzc2.ensures
-
-pub nlzc_w_spec : {M : Type 1} → statement M
-nlzc_w_spec = tie.close (tie.spec (λ c κs. search rules) (λ c κs. search rules) add-result returns)
+    c.nlzc-low.ensures c.nlzc-high.ensures
