@@ -1,4 +1,6 @@
 // The listing: the line of a word in its parts, each written from a place of a lent line on.
+#![tactic(auto)]
+
 ghost use Rattle.std.specs.Prelude.{◌≡◌, ◌++◌};
 ghost use Rattle.isa.specs.Numbers.{number_in, read_said, unread_number};
 ghost use Rattle.shown.specs.declared.Form.TheVariants as form;
