@@ -1,5 +1,5 @@
 -- Halves of an element: their views, sums and differences in numbers, at the full width.
-use mathlib.Core.Path.{◌≡◌, refl, sym, ap}
+use mathlib.Core.Path.{◌≡◌, refl, sym}
 use Prim.Native.Nat.{ℕ, ◌+◌, ◌-◌, ◌/◌, ◌^◌, ◌≤◌, ◌<◌}
 use native.Mathlib.Omega.{arith}
 use lib.Dec.{lit≤}
@@ -11,7 +11,7 @@ use Rattle.element.specs.declared.Reading.{Reading}
 use Rattle.element.specs.declared.Reading.TheVariants.{Unsigned, Signed}
 use Rattle.element.specs.Value.{top}
 use Rattle.element.specs.Views.{flip, view}
-use Rattle.element.proofs.Diff.{diff-pos, diff-add, diff-minus, diff-to}
+use Rattle.element.proofs.Diff.{diff-pos, diff-add, diff-minus}
 use Rattle.element.proofs.Readings.{value-diff, view-below}
 use Rattle.element.proofs.Views.{wrap-is, wrap-flip}
 use Rattle.element.proofs.Widths.{size, half-size}

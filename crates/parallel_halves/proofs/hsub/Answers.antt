@@ -1,5 +1,4 @@
 -- `parallel_halves::hsub` meets its contract. The differences of the halves, or of their views (Sides).
-use borrow.Author.Rules.{rules}
 use Rattle.parallel_halves.proofs.Sides.{high_small, low_small, apart-unsigned, turned-small, apart-signed}
 use Rattle.parallel_halves.proofs.hsub.Goals as goal
 

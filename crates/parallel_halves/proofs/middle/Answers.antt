@@ -1,5 +1,4 @@
 -- `parallel_halves::middle` meets its contract. At each width the literal is the number built of one element.
-use borrow.Author.Rules.{rules}
 use mathlib.Core.Path.{refl}
 use Rattle.vectors.specs.Register.{build}
 use Rattle.parallel.proofs.Named.{all-at}
