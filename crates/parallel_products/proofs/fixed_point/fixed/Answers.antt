@@ -11,8 +11,7 @@ use Rattle.vectors.specs.Register.{element}
 use Rattle.vectors.proofs.ElementLaws.{element-below, element-beyond}
 use Rattle.vectors.proofs.Sizes.{shares}
 use Rattle.parallel.proofs.Words.{same-lanes}
-use Rattle.parallel_products.proofs.fixed_point.fixed.Statement.{statement}
-use Rattle.parallel_products.proofs.fixed_point.fixed.Tie as tie
+use Rattle.parallel_products.proofs.fixed_point.fixed.Goals as goal
 
 -- the elements of 0 are 0
 none : (n i : ℕ) → element n 0 i ≡ 0
@@ -26,21 +25,17 @@ old-at n d i MulrQ = none n i
 old-at n d i MaddrQ = refl
 old-at n d i MsubrQ = refl
 
-returns : tie.Need-returns
+pub returns : goal.returns
 returns c =
-    let p = c.before in
-    let start = p.before.before.before in
+    let p = c in
+    let start = p in
     let a = start.args in
     let n = bits a.w in
     same-lanes (shares a.w) c.sums.ensures
     (λ i l.
-    ap (λ x. cut p.before.before.rounds.result n
-    (summed p.before.subtracts.result n x (element n a.s i) (element n a.t i)))
+    ap (λ x. cut p.rounds.result n
+    (summed p.subtracts.result n x (element n a.s i) (element n a.t i)))
     (ap (λ x. element n x i) p.old.ensures ∙ old-at n a.d i a.op)
-    ∙ rw (p.before.before.rounds.ensures, p.before.subtracts.ensures)
+    ∙ rw (p.rounds.ensures, p.subtracts.ensures)
     (parts n (size a.w) (record { first = element-below n a.s i; second = element-below n a.t i })
     (element n a.d i) a.op))
-
-pub fixed_spec : {M : Type 1} → statement M
-fixed_spec = tie.close (tie.spec
-    (λ c κs. search rules) (λ c κs. search rules) (λ c κs. search rules) (λ c κs. search rules) returns)
