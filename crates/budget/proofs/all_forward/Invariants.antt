@@ -1,11 +1,7 @@
 -- `budget::all_forward`. The invariant: the words before i all go forward.
-use Rattle.reading.specs.Reading.{read_of}
-use Rattle.budget.specs.Budget.{forward, forward_to, words}
-use Rattle.budget.proofs.BudgetLaws.{forward-none, forward-more, forward-not}
-use borrow.Author.Rules.{rules}
+use Rattle.budget.specs.Budget.{forward_to}
 use mathlib.Core.Bool.{true}
-use mathlib.Core.Path.{◌≡◌, sym, ap, ◌∙◌}
-use native.Mathlib.Omega.{arith}
+use mathlib.Core.Path.{◌≡◌}
 use Prim.Native.Nat.{◌-◌, ◌≤◌}
 use Rattle.budget.proofs.all_forward.Given as goal
 

@@ -3,7 +3,6 @@ use Rattle.budget.specs.Budget.{budget_of}
 use Rattle.state.proofs.FetchLaws.{fetched-inside}
 use Rattle.state.proofs.Said.{fetched-is}
 use Rattle.state.proofs.SetupLaws.{program-small}
-use borrow.Author.Rules.{rules}
 use lib.ListN.{length}
 use mathlib.Core.Path.{sym, ◌∙◌}
 use Rattle.budget.proofs.forward_budget.Goals as goal

@@ -1,5 +1,4 @@
 -- `budget::from_word`: by what the words say.
-use borrow.Author.Rules.{rules}
 use mathlib.Core.Path.{sym, ◌∙◌}
 use Rattle.budget.proofs.from_word.Goals as goal
 
