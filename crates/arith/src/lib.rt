@@ -1,4 +1,6 @@
 // Table 4.1 but SAT, and the compares of Table 4.8, on all elements of a word.
+#![tactic(auto)]
+
 ghost use Rattle.isa.specs.Widths.{bits};
 ghost use Rattle.parallel.specs.Lanes.{Each3};
 ghost use Rattle.arith.specs.Arith.{arith_of};
