@@ -56,11 +56,17 @@ hw-letter = elim [ B ↦ refl | H ↦ refl | W ↦ refl | D ↦ refl ]
 
 pub bit-letter : (df : Width) (m : ℕ) → bit_of (letter df) m ≡ writing.bit_code df m
 unfolding bit_of
-bit-letter df m = elim df [ B ↦ refl | H ↦ refl | W ↦ refl | D ↦ refl ]
+bit-letter B m = refl
+bit-letter H m = refl
+bit-letter W m = refl
+bit-letter D m = refl
 
 pub elm-letter : (df : Width) (n : ℕ) → elm_of (letter df) n ≡ writing.element_code df n
 unfolding elm_of
-elm-letter df n = elim df [ B ↦ refl | H ↦ refl | W ↦ refl | D ↦ refl ]
+elm-letter B n = refl
+elm-letter H n = refl
+elm-letter W n = refl
+elm-letter D n = refl
 
 pub bytes-letter : (df : Width) → bytes_of (letter df) ≡ format.bytes df
 unfolding bytes_of
