@@ -1,5 +1,7 @@
 // Permutes, Table 4.10, on whole words: a module for each way in which elements change their places. Only VSHF, whose
 // controls may all differ, goes element by element.
+#![tactic(auto)]
+
 pub mod filed;
 mod inserts;
 pub mod moves;

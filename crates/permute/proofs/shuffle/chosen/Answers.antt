@@ -7,17 +7,21 @@ use Rattle.isa.specs.Widths.{bits}
 use Rattle.memory.specs.Value.{value}
 use Rattle.vectors.specs.Register.{build}
 use Rattle.permute.specs.Permute.{chosen_by_control}
-use Rattle.permute.proofs.shuffle.chosen.Statement.{statement}
-use Rattle.permute.proofs.shuffle.chosen.Tie as tie
+use Rattle.permute.proofs.shuffle.chosen.Goals as goal
 
 at_width : {v w : Width} {r : ℕ} (d s t : ℕ) → w ≡ v
     → r ≡ build (bits v) (chosen_by_control (bits v) d s t) (64 / bits v)
     → r ≡ build (bits w) (chosen_by_control (bits w) d s t) (64 / bits w)
 at_width d s t e h = rw e h
 
-pub chosen_spec : {M : Type 1} → statement M
-chosen_spec = tie.close (tie.spec
-    (λ c. search rules) (λ c κs. search rules) (λ c. search rules) (λ c κs. search rules)
-    (λ c. search rules) (λ c κs. search rules) (λ c. search rules) (λ c κs. search rules)
-    (λ c. search (rules, at_width)) (λ c. search (rules, at_width))
-    (λ c. search (rules, at_width)) (λ c. search (rules, at_width)))
+pub returns-in-B : goal.returns-in-B
+returns-in-B c = search (rules, at_width)
+
+pub returns-in-H : goal.returns-in-H
+returns-in-H c = search (rules, at_width)
+
+pub returns-in-W : goal.returns-in-W
+returns-in-W c = search (rules, at_width)
+
+pub returns-in-D : goal.returns-in-D
+returns-in-D c = search (rules, at_width)

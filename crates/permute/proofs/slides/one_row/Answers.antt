@@ -11,33 +11,26 @@ use Rattle.vectors.proofs.Wholes.{whole_words}
 use Rattle.parallel.proofs.Words.{built, same-lanes}
 use Rattle.permute.specs.Permute.{both, slid_byte}
 use Rattle.permute.proofs.SlideLaws.{row_at, slid-row}
-use Rattle.permute.proofs.slides.one_row.Statement.{statement}
-use Rattle.permute.proofs.slides.one_row.Tie as tie
+use Rattle.permute.proofs.slides.one_row.Goals as goal
 
-returns : tie.Need-returns
+pub returns : goal.returns
 returns c =
-    let first = c.before.before.before in
-    let a = first.before.before.args in
+    let first = c in
+    let a = first.args in
     let d = value a.d in
     let s = value a.s in
     let q = a.by / 8 in
     let k = a.by % 8 in
     let f : ℕ → ℕ = slid_byte 16 a.by d s in
-    let middle = first.before.word_of.ensures in
+    let middle = first.word_of-middle.ensures in
     let on : q + 2 ≡ q + 1 + 1 = omega arith in
     is-register (record { low = search rules; high = search rules })
     (whole_words (shares B) f _ _
-    (built (shares B) (same-lanes (shares B) c.before.before.funnel.ensures
-    (λ i l. ap₂ (λ y x. slid_byte 8 k y x i) middle first.word-of2.ensures ∙ row_at d s q k i (omega arith) l
+    (built (shares B) (same-lanes (shares B) c.funnel.ensures
+    (λ i l. ap₂ (λ y x. slid_byte 8 k y x i) middle first.word_of.ensures ∙ row_at d s q k i (omega arith) l
     ∙ ap (both 8 d s) (let e : i + k + 8 * q ≡ i + a.by = omega arith in e) ∙ slid-row d s a.by i (omega arith))))
-    (built (shares B) (same-lanes (shares B) c.funnel2.ensures
-    (λ i l. ap₂ (λ y x. slid_byte 8 k y x i) (c.before.word-of3.ensures ∙ ap (both 64 d s) on) middle
+    (built (shares B) (same-lanes (shares B) c.funnel-2.ensures
+    (λ i l. ap₂ (λ y x. slid_byte 8 k y x i) (c.word_of-2.ensures ∙ ap (both 64 d s) on) middle
     ∙ row_at d s (q + 1) k i (omega arith) l
     ∙ ap (both 8 d s) (let e : i + k + 8 * (q + 1) ≡ 8 + i + a.by = omega arith in e)
     ∙ slid-row d s a.by (8 + i) (omega arith)))))
-
-pub one_row_spec : {M : Type 1} → statement M
-one_row_spec =
-    tie.close (tie.spec
-    (λ c. search rules) (λ c κs. omega arith) (λ c κs. omega arith) (λ c κs. omega arith)
-    (λ c. search rules) (λ c κs. omega arith) (λ c κs. omega arith) returns)

@@ -10,12 +10,11 @@ use Rattle.vectors.proofs.Wholes.{whole_words}
 use Rattle.parallel.proofs.Words.{built, same-lanes}
 use Rattle.permute.specs.Permute.{slid_byte}
 use Rattle.permute.proofs.SlideLaws.{bytes_of, row_low, row-high}
-use Rattle.permute.proofs.slides.rows.Statement.{statement}
-use Rattle.permute.proofs.slides.rows.Tie as tie
+use Rattle.permute.proofs.slides.rows.Goals as goal
 
-returns : tie.Need-returns
+pub returns : goal.returns
 returns c =
-    let top = c.before.before in
+    let top = c in
     let a = top.args in
     let b = bytes_of a.v in
     let hd : Words a.d = (record { low = search rules; high = search rules }) in
@@ -23,8 +22,5 @@ returns c =
     let f : ℕ → ℕ = slid_byte (bits a.v / 8) a.by (value a.d) (value a.s) in
     is-register (record { low = search rules; high = search rules })
     (whole_words (shares B) f _ _
-    (built (shares B) (same-lanes (shares B) c.before.funnel.ensures (row_low b hd hs a.by top.requires)))
-    (built (shares B) (same-lanes (shares B) c.funnel2.ensures (row-high b hd hs a.by top.requires))))
-
-pub rows_spec : {M : Type 1} → statement M
-rows_spec = tie.close (tie.spec (λ c κs. search rules) (λ c κs. search rules) returns)
+    (built (shares B) (same-lanes (shares B) c.funnel.ensures (row_low b hd hs a.by top.requires)))
+    (built (shares B) (same-lanes (shares B) c.funnel-2.ensures (row-high b hd hs a.by top.requires))))

@@ -10,18 +10,17 @@ use Rattle.vectors.proofs.Wholes.{whole_words}
 use Rattle.parallel.proofs.Words.{own, built, same-lanes}
 use Rattle.permute.specs.Permute.{with_element}
 use Rattle.permute.proofs.InsertLaws.{in-low, in-high, low-kept, high-kept, all-kept}
-use Rattle.permute.proofs.insert.Statement.{statement}
-use Rattle.permute.proofs.insert.Tie as tie
+use Rattle.permute.proofs.insert.Goals as goal
 
-put-requires : tie.Need-put-requires
-put-requires c κs = omega (arith, c.before.per-word.ensures)
+pub put-requires : goal.put-requires
+put-requires c = omega (arith, c.per_word-m.ensures)
 
-put-requires-2 : tie.Need-put-requires-2
-put-requires-2 c κs = omega (arith, c.before.before.per-word.ensures)
+pub put-requires-then-i-m-2 : goal.put-requires-then-i-m-2
+put-requires-then-i-m-2 c = omega (arith, c.per_word-m.ensures)
 
-returns : tie.Need-returns
-returns c =
-    let a = c.before.before.before.args in
+pub returns-then-i-m : goal.returns-then-i-m
+returns-then-i-m c =
+    let a = c.args in
     let share = shares a.w in
     let words : Words a.d = (record { low = search rules; high = search rules }) in
     let f = with_element a.i a.x (bits a.w) (value a.d) in
@@ -29,30 +28,27 @@ returns c =
     (whole_words share f _ _
     (built share (same-lanes share c.put.ensures (in-low share words a.i a.x)))
     (built share (same-lanes share (own share a.d.high words.high)
-    (high-kept share words a.i a.x (omega (arith, c.before.before.per-word.ensures))))))
+    (high-kept share words a.i a.x (omega (arith, c.per_word-m.ensures))))))
 
-returns-2 : tie.Need-returns-2
-returns-2 c =
-    let a = c.before.before.before.before.args in
+pub returns-then-i-m-2 : goal.returns-then-i-m-2
+returns-then-i-m-2 c =
+    let a = c.args in
     let n = bits a.w in
     let share = shares a.w in
     let words : Words a.d = (record { low = search rules; high = search rules }) in
     let f = with_element a.i a.x n (value a.d) in
-    let per = c.before.before.before.per-word.ensures in
-    let new = rw per at c.put2.ensures in
+    let per = c.per_word-m.ensures in
+    let new = rw per at c.put-then-i-m-2.ensures in
     is-register (record { low = search rules; high = search rules })
     (whole_words share f _ _
     (built share (same-lanes share (own share a.d.low words.low)
     (low-kept share words a.i a.x (omega (arith, per)))))
     (built share (same-lanes share new (in-high share words a.i a.x (omega (arith, per))))))
 
-returns-3 : tie.Need-returns-3
-returns-3 c =
-    let a = c.before.before.before.args in
+pub returns : goal.returns
+returns c =
+    let a = c.args in
     let words : Words a.d = (record { low = search rules; high = search rules }) in
     is-register words
     (all-kept (shares a.w) words a.i a.x
-    (omega (arith, c.before.before.per-word.ensures, (shares a.w).double)))
-
-pub insert_spec : {M : Type 1} → statement M
-insert_spec = tie.close (tie.spec (λ c κs. search rules) put-requires returns put-requires-2 returns-2 returns-3)
+    (omega (arith, c.per_word-m.ensures, (shares a.w).double)))

@@ -1,0 +1,48 @@
+-- `permute::slides::funnel` meets its contract. The bytes of both in every element, one above the other.
+use borrow.Author.Rules.{rules}
+use mathlib.Core.Path.{◌≡◌}
+use native.Mathlib.Omega.{arith}
+use Rattle.element.proofs.Widths.{size}
+use Rattle.isa.specs.declared.Width.TheVariants.{B}
+use Rattle.vectors.proofs.Sizes.{shares}
+use Rattle.parallel.proofs.Words.{own, same-lanes}
+use Rattle.permute.proofs.SlideLaws.{bytes_of, slid-lanes, slid-bytes, slid-none}
+use Rattle.permute.proofs.slides.funnel.Goals as goal
+
+pub overflow_mul-p : goal.overflow_mul-p
+overflow_mul-p c = let a = c in omega (arith, (bytes_of a.args.v).bytes, a.requires, size a.args.v)
+
+pub shr-requires : goal.shr-requires
+shr-requires c = let a = c in omega (arith, (bytes_of a.args.v).bytes, a.requires)
+
+pub overflow_sub-count : goal.overflow_sub-count
+overflow_sub-count c = let a = c in omega (arith, c.count.ensures, (bytes_of a.args.v).bytes, a.requires)
+
+pub sll-requires : goal.sll-requires
+sll-requires c = let a = c in omega (arith, c.count.ensures, size a.args.v)
+
+pub overflow_add-result : goal.overflow_add-result
+overflow_add-result c =
+    let first = c in
+    let top = first in
+    let a = top.args in
+    let all = slid-lanes (bytes_of a.v) a.d a.s a.k top.requires (shares a.v)
+    c.count.ensures (omega arith) first.shr.ensures c.sll.ensures in
+    omega (arith, all.below)
+
+pub returns-then-k-eq0 : goal.returns-then-k-eq0
+returns-then-k-eq0 c =
+    let a = c.args in
+    let none : 0 ≡ a.k = omega arith in
+    same-lanes (shares B) (own (shares B) a.s (search rules))
+    (λ i l. rw (← none) (slid-none (bytes_of a.v).some a.d a.s i))
+
+pub returns : goal.returns
+returns c =
+    let first = c in
+    let top = first in
+    let a = top.args in
+    let b = bytes_of a.v in
+    slid-bytes b a.d a.s a.k top.requires
+    (slid-lanes b a.d a.s a.k top.requires (shares a.v)
+    c.count.ensures (omega arith) first.shr.ensures c.sll.ensures)
