@@ -1,5 +1,7 @@
 // Every element of a register by one operation. All operations with a data format stand behind the one contract of
 // `each`, and a register goes word by word, since no element of any format crosses its two words.
+#![tactic(auto)]
+
 ghost use Rattle.std.specs.Prelude.{◌≡◌};
 ghost use Rattle.isa.specs.Widths.{bits};
 ghost use Rattle.lanes.specs.declared.Lane.TheVariants as lane;
