@@ -1,5 +1,7 @@
 // What the operation of each encoding class makes of vector registers: the operations on registers behind the enums.
 // d, s and t are the old wd, ws and wt; an immediate stands in every element of t.
+#![tactic(auto)]
+
 ghost use Rattle.std.specs.Prelude.{◌≡◌, ◌+◌, ◌*◌, ◌^◌, ◌≤◌};
 ghost use Rattle.isa.specs.Widths.{bits};
 ghost use Rattle.memory.specs.Value.{value, register};
