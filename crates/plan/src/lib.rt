@@ -1,6 +1,8 @@
 // What an instruction would do to a machine, as a value. Nothing is changed here: a plan names the reason to stop, or
 // the one thing that changes beside the program counter and the slot mark. So the sources are always the values before
 // the step, and two machines can be compared by their plans.
+#![tactic(auto)]
+
 mod address;
 pub mod ahead;
 pub mod branch;

@@ -1,0 +1,6 @@
+-- `plan::branch::mark_of`: by the test.
+use borrow.Author.Rules.{rules}
+use Rattle.plan.proofs.branch.mark_of.Goals as goal
+
+pub returns-then-taken : goal.returns-then-taken
+returns-then-taken c = rw c.if-taken.true

@@ -1,0 +1,6 @@
+-- `plan::early::switched_early`: by the test.
+use borrow.Author.Rules.{rules}
+use Rattle.plan.proofs.early.switched_early.Goals as goal
+
+pub returns-else-on : goal.returns-else-on
+returns-else-on c = rw c.if-on.false
