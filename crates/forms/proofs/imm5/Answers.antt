@@ -1,5 +1,4 @@
 -- `forms::imm5` meets its contract. The immediate is in every element.
-use borrow.Author.Rules.{rules}
 use Rattle.vectors.proofs.Sizes.{shares}
 use Rattle.vectors.proofs.Wholes.{value-filled}
 use Rattle.forms.proofs.imm5.Goals as goal

@@ -1,5 +1,4 @@
 -- `forms::immediate` meets its contract, with the sign and without it.
-use borrow.Author.Rules.{rules}
 use Rattle.forms.proofs.immediate.Goals as goal
 
 pub returns-then-signed : goal.returns-then-signed

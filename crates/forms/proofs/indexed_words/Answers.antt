@@ -1,5 +1,4 @@
 -- `forms::indexed_words` meets its contract. Each arm is its row of the definition.
-use borrow.Author.Rules.{rules}
 use Rattle.forms.proofs.indexed_words.Goals as goal
 
 pub returns-in-Splat : goal.returns-in-Splat

@@ -1,9 +1,7 @@
 -- `parallel_products::division::remainders` meets its contract. The loop goes from the top element down (Turns).
-use Rattle.std.proofs.Common.{arith, rules}
-use Rattle.isa.specs.Widths.{bits}
-use Rattle.products.specs.Products.{remainder}
+use Rattle.std.proofs.Common.{rules}
 use Rattle.products.proofs.Below.{remainder-below}
-use Rattle.parallel.proofs.Turns.{Turns2, start2, fits2, more2, done2}
+use Rattle.parallel.proofs.Turns.{start2, fits2, more2, done2}
 use Rattle.parallel_products.proofs.division.remainders.Goals as goal
 
 pub loop-i-init : goal.loop-i-init

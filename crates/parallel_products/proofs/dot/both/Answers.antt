@@ -1,5 +1,5 @@
 -- `parallel_products::dot::both` meets its contract. The ring view, in the low bits.
-use Rattle.std.proofs.Common.{ℕ, ◌/◌, ◌%◌, ◌^◌, sym, ◌∙◌, ap₂, arith, pow_pos, rules}
+use Rattle.std.proofs.Common.{ℕ, ◌/◌, ◌%◌, ◌^◌, sym, ◌∙◌, ap₂, arith, pow_pos}
 use Rattle.isa.specs.Widths.{bits}
 use Rattle.element.specs.Value.{value, wrap}
 use Rattle.element.proofs.Widths.{size}

@@ -1,5 +1,5 @@
 -- `parallel_products::dot::bytes` meets its contract. Each arm knows the reading.
-use Rattle.std.proofs.Common.{refl, rules}
+use Rattle.std.proofs.Common.{refl}
 use Rattle.parallel_products.proofs.dot.bytes.Goals as goal
 
 pub sums-requires : goal.sums-requires

@@ -1,5 +1,5 @@
 -- `parallel_products::dot::dpsub` meets its contract. The ring view.
-use Rattle.std.proofs.Common.{sym, ap, ◌∙◌, rules}
+use Rattle.std.proofs.Common.{sym, ap, ◌∙◌}
 use Rattle.isa.specs.Widths.{bits}
 use Rattle.vectors.specs.Register.{element}
 use Rattle.vectors.proofs.Sizes.{shares}

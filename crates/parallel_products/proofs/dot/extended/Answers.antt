@@ -1,5 +1,4 @@
 -- `parallel_products::dot::extended` meets its contract. The order view of a half.
-use Rattle.std.proofs.Common.{rules}
 use Rattle.parallel_products.proofs.Dots.{extended-is}
 use Rattle.parallel_products.proofs.dot.extended.Goals as goal
 

@@ -1,8 +1,7 @@
 -- `parallel_products::dot::sums` meets its contract. The loop goes from the top element down (Turns).
 use Rattle.std.proofs.Common.{◌-◌, ◌/◌, ap, arith, rules}
 use Rattle.isa.specs.Widths.{bits}
-use Rattle.products.specs.Halves.{dotp}
-use Rattle.parallel.proofs.Turns.{Turns2, start2, fits2, more2, done2, place-fits, element-is}
+use Rattle.parallel.proofs.Turns.{start2, fits2, more2, done2, place-fits, element-is}
 use Rattle.parallel_products.proofs.Dots.{dotp-below}
 use Rattle.parallel_products.proofs.dot.sums.Goals as goal
 

@@ -1,5 +1,4 @@
 -- `parallel_products::dot::times` meets its contract. The low bits of a product are those of the low bits.
-use Rattle.std.proofs.Common.{rules}
 use Rattle.parallel_products.proofs.Dots.{product_is}
 use Rattle.parallel_products.proofs.dot.times.Goals as goal
 

@@ -1,5 +1,5 @@
 -- `parallel_products::fixed_point::fixed` meets its contract: each of the six is the sum with its parts (SixParts).
-use Rattle.std.proofs.Common.{◌≡◌, ℕ, ◌*◌, refl, ap, ◌∙◌, pow_pos, rules}
+use Rattle.std.proofs.Common.{◌≡◌, ℕ, ◌*◌, refl, ap, ◌∙◌, pow_pos}
 use Rattle.isa.specs.declared.Fixed.{Fixed}
 use Rattle.isa.specs.declared.Fixed.TheVariants.{MulQ, MaddQ, MsubQ, MulrQ, MaddrQ, MsubrQ}
 use Rattle.isa.specs.Widths.{bits}

@@ -1,10 +1,9 @@
 -- `parallel_products::fixed_point::sums` meets its contract. The loop goes from the top element down (Turns).
-use Rattle.std.proofs.Common.{arith, rules}
+use Rattle.std.proofs.Common.{rules}
 use Rattle.isa.specs.Widths.{bits}
 use Rattle.element.proofs.Widths.{size}
-use Rattle.fixed.specs.Fixed.{cut, summed}
 use Rattle.fixed.proofs.Below.{cut_below}
-use Rattle.parallel.proofs.Turns.{Turns3, start3, fits3, more3, done3}
+use Rattle.parallel.proofs.Turns.{start3, fits3, more3, done3}
 use Rattle.parallel_products.proofs.fixed_point.sums.Goals as goal
 
 pub loop-i-init : goal.loop-i-init

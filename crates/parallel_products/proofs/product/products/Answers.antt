@@ -1,10 +1,8 @@
 -- `parallel_products::product::products` meets its contract. The loop goes from the top element down (Turns).
-use Rattle.std.proofs.Common.{arith, rules}
-use Rattle.isa.specs.Widths.{bits}
+use Rattle.std.proofs.Common.{rules}
 use Rattle.isa.specs.declared.Product.TheVariants.{Mulv}
-use Rattle.products.specs.Products.{mulv}
 use Rattle.products.proofs.Below.{product-below}
-use Rattle.parallel.proofs.Turns.{Turns2, start2, fits2, more2, done2}
+use Rattle.parallel.proofs.Turns.{start2, fits2, more2, done2}
 use Rattle.parallel_products.proofs.product.products.Goals as goal
 
 pub loop-i-init : goal.loop-i-init

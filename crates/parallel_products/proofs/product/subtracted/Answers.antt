@@ -1,10 +1,8 @@
 -- `parallel_products::product::subtracted` meets its contract. The loop goes from the top element down (Turns).
-use Rattle.std.proofs.Common.{arith, rules}
-use Rattle.isa.specs.Widths.{bits}
+use Rattle.std.proofs.Common.{rules}
 use Rattle.isa.specs.declared.Product.TheVariants.{Msubv}
-use Rattle.products.specs.Products.{msubv}
 use Rattle.products.proofs.Below.{product-below}
-use Rattle.parallel.proofs.Turns.{Turns3, start3, fits3, more3, done3}
+use Rattle.parallel.proofs.Turns.{start3, fits3, more3, done3}
 use Rattle.parallel_products.proofs.product.subtracted.Goals as goal
 
 pub loop-i-init : goal.loop-i-init
