@@ -5,7 +5,7 @@
  * table and the work window, and stores into the work window, are in the order that the
  * control block names.
  *
- * Link with target/staticlib/libentry.a (`rt staticlib entry`, x86-64). The four functions
+ * Link with target/staticlib/libentry.a (`host/build` makes it, x86-64). The four functions
  * msa_step, msa_run, msa_why and msa_budget are pure but for the bytes lent to them: they
  * allocate nothing, keep nothing and call nothing; msa_why and msa_budget are lent every
  * byte for reading only. No pointer may be null, also not with a length of 0, and a slice
@@ -150,7 +150,7 @@ struct msa_ended msa_run(const uint8_t *program, size_t program_bytes, uint64_t 
  * than the program has words is refused with MSA_REFUSED_LIST. What the entries hold before the call does not matter;
  * after a run that was not refused the first, as many as the program has words, are the program's, and those behind
  * them are as they were. The list must overlap no other slice. It is in an archive of its own,
- * target/staticlib/libentry_read.a (`rt staticlib entry_read`), which may be linked beside libentry.a.
+ * target/staticlib/libentry_read.a (made by `host/build` too), which may be linked beside libentry.a.
  */
 struct msa_ended msa_run_read(const uint8_t *program, size_t program_bytes, uint64_t program_base,
                               const uint8_t *table, size_t table_bytes, uint64_t table_base,
