@@ -1,6 +1,6 @@
 -- What an entry does: its plan, by its code and its parts. Every number has one, so nothing is asked of a list's
 -- contents; that the entry of an instruction does what the instruction does is a law (proofs/Back.antt).
-use Rattle.std.specs.Prelude.{Bool, true, false, cond, List, [], ◌∷◌, ℕ, ◌+◌, ◌/◌, ◌%◌, ◌^◌, eqb, ltb}
+use Rattle.std.specs.Prelude.{Bool, cond, List, [], ◌∷◌, ℕ, ◌+◌, ◌/◌, ◌%◌, ◌^◌, eqb, ltb}
 use Rattle.isa.specs.declared.BitOp.TheVariants as bit
 use Rattle.isa.specs.declared.Copied.TheVariants.{CopyS, CopyU}
 use Rattle.isa.specs.declared.Count.TheVariants.{Pcnt, Nloc, Nlzc}
