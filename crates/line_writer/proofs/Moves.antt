@@ -6,7 +6,7 @@ use Prim.Native.Nat.{ℕ, ◌-◌}
 use native.Mathlib.Nat.{zero-add}
 use native.Mathlib.Omega.{arith}
 use lib.ListN.{length, replicate, length-append, length-replicate}
-use denote.Ref.{Bor}
+use denote.MutBor.{MutBor}
 use Rattle.text.specs.Text.{bytes, Room, Puts, padded}
 use Rattle.text.specs.Numerals.{hex}
 use Rattle.text.proofs.Puts.{puts-as, puts_then, puts_whole, kept, room_as, room-left, room-right}
@@ -25,7 +25,7 @@ puts : (h : LineWriter) (p : Part)
     → Puts h.line.now h.at (part_text h.line.now h.at p) (moved h p).line.now (moved h p).at
 puts h p = record { place = refl; line = refl }
 
-module _ (x : Bor (List ℕ)) (a w : ℕ) where
+module _ (x : MutBor (List ℕ)) (a w : ℕ) where
   abbrev pub made : LineWriter
   made = record { line = x; at = 0 }
 

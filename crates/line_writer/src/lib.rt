@@ -1,5 +1,7 @@
-// The listing writer as a struct: the lent line and the place of what comes next. `new`, `put` and `fill` are proved by
-// a walk of their MIR, by hand; the work is `listing::put_part`'s, on a slice and a number.
+// The listing writer as a struct: the lent line and the place of what comes next. `fill` is proved by a walk of its MIR,
+// by hand; the work is `listing::put_part`'s, on a slice and a number.
+#![tactic(auto)]
+
 ghost use Rattle.std.specs.Prelude.{◌≡◌, length};
 ghost use Rattle.text.specs.Text.{Room, padded};
 ghost use Rattle.listing.specs.Listing.{part_text, line_of, Lists};
@@ -7,7 +9,7 @@ ghost use Rattle.line_writer.specs.Moved.{moved};
 
 use listing::{Line, Part, put_part};
 
-#[derive(Clone, Copy)]
+#[derive(Drop)]
 pub struct LineWriter<'a> {
     pub line: &'a mut [u8],
     pub at: usize,

@@ -1,14 +1,13 @@
 -- `line_writer::fill` meets its contract: a walk of its MIR, by hand. All that it knows of `new` and `put` is that each
 -- meets its contract. Each is called at the borrow's own lifetime, share and ghost name: what it returns is, by its
 -- contract, a record that is known whole (`Moves.antt`). At exit the borrow is owned at the last writer's list.
--- Assumes nothing.
 use mathlib.Core.Path.{◌≡◌, refl, sym, ap, subst}
 use Prim.Native.Nat.{ℕ, ◌<◌, ◌^◌}
 use mathlib.Core.List.{[], ◌∷◌, List}
 use lib.Dec.{T as Holds}
 use lib.ListN.{length}
 use seplogic.Ra.Ura.{Ura}
-use seplogic.Ra.TreeShare.{full_share}
+use base.Fraction.{full_share}
 use mir.Syntax.{named, erased, w32, w64}
 use mir.Val.{Val, WT, has_ty, vint, vstruct, vcons, vnil}
 use base.Logic.{SProp, ent, sep, id⊢, ex_e, snd∗}
@@ -27,10 +26,10 @@ use types.Part.{agg, whole, sub, look_in}
 use sound.WpLaws.{FmC, fm_of, WpFn-mono}
 use denote.RattleType.{owns}
 use denote.Laws.{Is, shows}
-use denote.Plain.{uint_makes, uint_vals, uint_tells}
+use denote.Plain.{uint_Makes, uint_vals, uint_Tells}
 use denote.Builtin.{u8, u32, usize}
 use denote.Ref.{MutBor, NamedLft}
-use denote.Slice.{slice_val, MutSlice, Room, mut_slice_vals, mut_slice_tells}
+use denote.Slice.{slice_val, MutSlice, Room, mut_slice_vals, mut_slice_Tells}
 use denote.Steps.{only, owned, peeks, heard, nothing}
 use denote.Enum.Laws as EL
 use denote.Struct.Laws as LL
@@ -40,9 +39,9 @@ use denote.Triple.Spec.{Meets, triple_of}
 use denote.Triple.Statement.{Contract, Triple}
 use denote.Triple.Call.{calls_at}
 use denote.Triple.Clauses.{ensured, lasts}
-use denote.Triple.Table.{entered, cited}
+use denote.Triple.Table.{entered}
 use denote.Triple.Walked.{says, needs, Stays, stay_none, stay_slice, walk_of, Goes-none, Goes-slice, Walks, ends_at}
-use denote.Triple.Walked.{walked, walk_meets}
+use denote.Triple.Walked.{walked, walk_Meets}
 use denote.Exit.{yes}
 use denote.Signature.{plain}
 use Rattle.line_writer.specs.declared.LineWriter.{LineWriter}
@@ -53,23 +52,24 @@ use Rattle.listing.specs.Listing.{line_of}
 use Rattle.listing.specs.contracts.Part as P
 use Rattle.listing.proofs.Part.TheLaws as P'
 use Rattle.line_writer.specs.Moved.{moved}
-use Rattle.line_writer.proofs.Held.{mach-part}
 use Rattle.line_writer.proofs.Moves as moves
 use Rattle.line_writer.proofs.Moves.{RoomFor}
 use Rattle.line_writer.specs.contracts.LineWriter as T
 use Rattle.line_writer.proofs.LineWriter.TheLaws as T'
 use Rattle.line_writer.specs.contracts.new as new
-use Rattle.line_writer.proofs.new.Symbol as new-def
 use Rattle.line_writer.proofs.new.Symbol.{name as #line-writer·new}
 use Rattle.line_writer.proofs.new.Met as new-thm
 use Rattle.line_writer.specs.contracts.put as put
-use Rattle.line_writer.proofs.put.Symbol as put-def
 use Rattle.line_writer.proofs.put.Symbol.{name as #line-writer·put}
 use Rattle.line_writer.proofs.put.Met as put-thm
 use Rattle.line_writer.specs.contracts.fill.Key.{name as #line-writer·fill}
 use Rattle.line_writer.specs.contracts.fill as fill
 use Rattle.line_writer.proofs.fill.Statement as stated
 use Rattle.line_writer.proofs.fill.Code as code
+
+-- a part's machine value
+abbrev mach-part : Part → Val
+mach-part p = EL.val P.the_type P'.the_laws p
 
 abbrev stayed : Stays (fill.ended).signature.params (fill.ended).kept
 stayed = (stay_slice (0 ∷ []) tt (plain (λ _. u8)), (stay_none (λ _. u32) yes, (stay_none (λ _. u32) yes, tt)))
@@ -212,9 +212,9 @@ module _ {M : Type 1} {𝓤 : Ura M} (𝓛 : Logic 𝓤) (mem : Memory → SProp
       (own_open 𝓛 (T.the_type α) (T'.the_laws α) (h₄.line, (h₄.at, tt)) w) $ learn ! (λ _. fsplit ! $
       rewrite ! 0 (λ (m : ℕ). ‵ ((MutSlice (named 0) κ u8).own_val h₄.line (slice_val (b, o) m ∷ [])))
       (moves.same_length x v u within) refl $ move ! (1 ∷ []) $ drop ! $
-      owned ! usize (Is usize) (uint_makes 𝓛 w64) h₃.at _ (refl, fits) $ move ! (1 ∷ 0 ∷ []) $
-      nothing ! $ owned ! u32 (Is u32) (uint_makes 𝓛 w32) u _ (refl, u-fits) $ fjoin ! $
-      owned ! u32 (Is u32) (uint_makes 𝓛 w32) v _ (refl, v-fits) $ fjoin ! $ move ! (1 ∷ 0 ∷ []) $ fjoin ! $
+      owned ! usize (Is usize) (uint_Makes 𝓛 w64) h₃.at _ (refl, fits) $ move ! (1 ∷ 0 ∷ []) $
+      nothing ! $ owned ! u32 (Is u32) (uint_Makes 𝓛 w32) u _ (refl, u-fits) $ fjoin ! $
+      owned ! u32 (Is u32) (uint_Makes 𝓛 w32) v _ (refl, v-fits) $ fjoin ! $ move ! (1 ∷ 0 ∷ []) $ fjoin ! $
       done !)
 
   module _ (C : Calls 𝓤 H) (Λ : Loops 𝓤 H) (fm : FmC 𝓤 H 𝓛.laws C)
@@ -337,7 +337,7 @@ module _ {M : Type 1} {𝓤 : Ura M} (𝓛 : Logic 𝓤) (mem : Memory → SProp
   fill_walks C Λ fm known-new known-put =
       walked 𝓛 fill.ended stayed (fill.clauses 𝓛 mem run) (WpFn 𝓤 H C Λ code.function)
       (λ κs. (mut_slice_vals, (uint_vals w32, (uint_vals w32, tt))))
-      (λ κs. (mut_slice_tells (named 0) κs.0 u8, (uint_tells w32, (uint_tells w32, tt))))
+      (λ κs. (mut_slice_Tells (named 0) κs.0 u8, (uint_Tells w32, (uint_Tells w32, tt))))
       (λ κs qs bounds a g are. needs 𝓤 (Fits a.0.now 0 (line_of a.1.0 a.1.1.0)) _ (λ within.
       walk 𝓛 mem run κs.0 qs.0 a.0.ref_ptr.0 a.0.ref_ptr.1 a.0.ghost_name a.0.now a.1.0
       a.1.1.0 are.1.0.1 are.1.1.0.1 within C Λ fm known-new known-put are.0.0.1))
@@ -347,7 +347,7 @@ fill_meets : {M : Type 1} {𝓤 : Ura M} (𝓛 : Logic 𝓤) →
     → Triple 𝓤 (𝓣.C #line-writer·new) (New 𝓛 mem run) → Triple 𝓤 (𝓣.C #line-writer·put) (Put 𝓛 mem run)
     → Meets 𝓛 fill.signature (WpFn 𝓤 𝓛.H 𝓣.C 𝓣.Λ code.function) (fill.spec 𝓛 mem run)
 fill_meets {𝓤 = 𝓤} 𝓛 mem run 𝓣 known-new known-put =
-    walk_meets 𝓛 fill.ended stayed (
+    walk_Meets 𝓛 fill.ended stayed (
       Goes-slice 𝓛 1 0 tt (plain (λ _. u8)),
       (
         Goes-none 𝓛 1 (λ _. u32) yes (λ κs x f. refl),
@@ -358,12 +358,11 @@ fill_meets {𝓤 = 𝓤} 𝓛 mem run 𝓣 known-new known-put =
     (fill_walks 𝓛 mem run 𝓣.C 𝓣.Λ (fm_of 𝓤 𝓛.H 𝓛.laws 𝓣) known-new known-put)
 
 pub fill_spec : {M : Type 1} → stated.statement M
-unfolding code.routine tables_of
-fill_spec 𝓤 𝓛 𝓜 𝓡 =
-    entered 𝓤 𝓛.H (triple_of 𝓛 fill.signature (fill.spec 𝓛 𝓜.mem 𝓡.run))
-    (tables 𝓤 𝓛.H 𝓜 𝓡 code.env).C (tables 𝓤 𝓛.H 𝓜 𝓡 code.env).Λ #line-writer·fill code.function (code.unfolded 𝓤 𝓛.H 𝓜 𝓡)
-    (fill_meets 𝓛 𝓜.mem 𝓡.run (tables_of 𝓤 𝓛.H 𝓜 (tables 𝓤 𝓛.H 𝓜 𝓡 code.env))
-    (cited 𝓤 𝓛.H (New 𝓛 𝓜.mem 𝓡.run) 𝓜 𝓡 code.env
-    #line-writer·new new-def.routine code.calls-line-writer::new (new-thm.met 𝓤 𝓛 𝓜 𝓡))
-    (cited 𝓤 𝓛.H (Put 𝓛 𝓜.mem 𝓡.run) 𝓜 𝓡 code.env
-    #line-writer·put put-def.routine code.calls-line-writer::put (put-thm.met 𝓤 𝓛 𝓜 𝓡)))
+unfolding tables_of
+fill_spec 𝓤 𝓛 𝓜 𝓡 wired =
+    let 𝓣 = tables 𝓤 𝓛.H 𝓜 𝓡 𝓡.env in
+    entered 𝓤 𝓛.H (triple_of 𝓛 fill.signature (fill.spec 𝓛 𝓜.mem 𝓡.returns)) 𝓣.C 𝓣.Λ #line-writer·fill code.function
+    (code.unfolded 𝓤 𝓛.H 𝓜 𝓡 wired)
+    (fill_meets 𝓛 𝓜.mem 𝓡.returns (tables_of 𝓤 𝓛.H 𝓜 𝓣)
+    (new-thm.met 𝓤 𝓛 𝓜 𝓡 (code.calls-line_writer::new 𝓡.env wired))
+    (put-thm.met 𝓤 𝓛 𝓜 𝓡 (code.calls-line_writer::put 𝓡.env wired)))
