@@ -2,6 +2,8 @@
 // `step`, a budget of them by `run`; `why` says how the next step would end, which `ahead` finds, and no step is done.
 // Lent memory is bytes; the control block goes by value. The public entries, `step::step`, `run::run` and `why::why`,
 // refuse a bad set-up themselves.
+#![tactic(auto)]
+
 pub mod act;
 pub mod advance;
 mod ahead;

@@ -1,0 +1,44 @@
+-- `machine::effect::apply`: in each arm the plan is known, and what it names is there.
+use Rattle.std.proofs.Common.{refl, arith, rules}
+use Rattle.machine.proofs.effect.apply.Goals as goal
+
+pub write_register-requires : goal.write_register-requires
+write_register-requires c =
+    let f = rw c.in-Vector.is at c.requires.2 in
+    search rules
+
+pub write_general-requires : goal.write_general-requires
+write_general-requires c =
+    let f = rw c.in-General.is at c.requires.2 in
+    search rules
+
+pub overflow_sub-at : goal.overflow_sub-at
+overflow_sub-at c =
+    let f = rw c.in-Store.is at c.requires.2 in
+    omega arith
+
+pub put_sixteen-requires : goal.put_sixteen-requires
+put_sixteen-requires c =
+    let f = rw c.in-Store.is at c.requires.2 in
+    omega arith
+
+pub returns-in-Stop : goal.returns-in-Stop
+returns-in-Stop c = rw c.in-Stop.is (record { vectors_after = refl; generals_after = refl; work_after = refl })
+
+pub returns-in-Nothing : goal.returns-in-Nothing
+returns-in-Nothing c = rw c.in-Nothing.is (record { vectors_after = refl; generals_after = refl; work_after = refl })
+
+pub returns-in-Vector : goal.returns-in-Vector
+returns-in-Vector c = rw c.in-Vector.is (record { vectors_after = c.write_register.ensures; generals_after = refl; work_after = refl })
+
+pub returns-in-General : goal.returns-in-General
+returns-in-General c = rw c.in-General.is (record { vectors_after = refl; generals_after = c.write_general.ensures; work_after = refl })
+
+pub returns-in-Store : goal.returns-in-Store
+returns-in-Store c = rw c.in-Store.is (record { vectors_after = refl; generals_after = refl; work_after = c.put_sixteen.ensures })
+
+pub returns-in-Csr : goal.returns-in-Csr
+returns-in-Csr c = rw c.in-Csr.is (record { vectors_after = refl; generals_after = refl; work_after = refl })
+
+pub returns-in-Branch : goal.returns-in-Branch
+returns-in-Branch c = rw c.in-Branch.is (record { vectors_after = refl; generals_after = refl; work_after = refl })

@@ -1,0 +1,16 @@
+-- `machine::turns::turns`. The invariant: the run so far and the run that is left are the whole run.
+use Rattle.std.proofs.Common.{◌≡◌, ◌-◌, ◌≤◌, length, refl, arith, rules}
+use Rattle.machine.proofs.RunLaws.{Sofar, sofar-none, sofar-more, sofar-stopped, sofar-spent}
+use Rattle.machine.specs.Run.{runs}
+use Rattle.state.specs.Machine.{env, machine}
+use Rattle.machine.proofs.turns.turns.Given as goal
+
+abbrev pub invariant-loop-count : goal.invariant-loop-count
+invariant-loop-count l =
+    (l.count ≤ l.budget) × (length l.vectors ≡ 512) × (length l.generals ≡ 256)
+    × (length l.work ≡ length l.initial.work)
+    × Sofar l.program (env l.board l.table) l.budget l.count (machine l.vectors l.generals l.work l.control)
+    (runs l.program (env l.board l.table) l.budget (machine l.initial.vectors l.initial.generals l.initial.work l.initial.control))
+
+abbrev pub decreases-loop-count : goal.decreases-loop-count
+decreases-loop-count l = l.budget - l.count

@@ -1,0 +1,24 @@
+-- `machine::why::why`: refused, or what `next` says.
+use Rattle.state.proofs.Said.{setup-is}
+use Rattle.state.proofs.SetupLaws.{accepted}
+use Rattle.state.specs.Machine.{env, machine}
+use Rattle.machine.proofs.WhyLaws.{meets}
+use Rattle.std.proofs.Common.{sym, refl, ◌∙◌, rules}
+use Rattle.machine.proofs.why.why.Goals as goal
+
+pub next-requires : goal.next-requires
+next-requires c =
+    let a = c.args in
+    let sized = accepted a.program.now (env a.board a.table.now)
+    (machine a.vectors.now a.generals.now a.work.now a.c)
+    (sym (setup-is c.check.ensures) ∙ c.in-Accepted.is)
+    in
+    sized.generals
+
+pub returns-in-Accepted : goal.returns-in-Accepted
+returns-in-Accepted c =
+    rw (← setup-is c.check.ensures, c.in-Accepted.is)
+    (meets c.next.ensures)
+
+pub returns-in-Refused : goal.returns-in-Refused
+returns-in-Refused c = rw (← setup-is c.check.ensures, c.in-Refused.is) (meets refl)
