@@ -1,5 +1,5 @@
 -- `values::operands::spread` meets its contract. Both words are the same, and each of their elements is x cut to the
--- width. Assumes nothing.
+-- width.
 use borrow.Author.Rules.{rules}
 use mathlib.Core.Path.{◌≡◌, ap, ◌∙◌}
 use Prim.Native.Nat.{ℕ, ◌-◌, ◌%◌, ◌^◌, ◌<◌}
@@ -13,8 +13,7 @@ use Rattle.parallel.proofs.Words.{built}
 use Rattle.vectors.specs.Register.{filled}
 use Rattle.vectors.proofs.Sizes.{shares}
 use Rattle.vectors.proofs.Wholes.{whole_words}
-use Rattle.values.proofs.operands.spread.Statement.{statement}
-use Rattle.values.proofs.operands.spread.Tie as tie
+use Rattle.values.proofs.operands.spread.Goals as goal
 
 module _ (w : Width) (x : ℕ) {m : ℕ} (ones : m ≡ 2 ^ bits w - 1) where
   masked : bit_and x m ≡ x % 2 ^ bits w
@@ -23,14 +22,13 @@ module _ (w : Width) (x : ℕ) {m : ℕ} (ones : m ≡ 2 ^ bits w - 1) where
   masked_below : bit_and x m < 2 ^ bits w
   masked_below = rw masked (mod-lt x (pow_pos (bits w)))
 
-pub spread_spec : {M : Type 1} → statement M
+pub spread_word-word-requires : goal.spread_word-word-requires
 unfolding filled
-spread_spec =
-    tie.close
-    (tie.spec (λ c κs. search rules)
-    (λ c κs. masked_below c.before.args.w c.before.args.x c.ones-of.ensures)
-    (λ c.
-    let a = c.before.before.args in
+spread_word-word-requires c = masked_below c.args.w c.args.x c.ones_of.ensures
+
+pub returns : goal.returns
+unfolding filled
+returns c = let a = c.args in
     let word =
-    rw (masked a.w a.x c.before.ones-of.ensures) at (built (shares a.w) c.spread-word.ensures) in
-    is-register (search rules) (whole_words (shares a.w) _ _ _ word word)))
+    rw (masked a.w a.x c.ones_of.ensures) at (built (shares a.w) c.spread_word-word.ensures) in
+    is-register (search rules) (whole_words (shares a.w) _ _ _ word word)

@@ -1,5 +1,4 @@
--- `values::operands::ones_of` meets its contract: all ones, shifted by what the width leaves of 64 bits. Assumes
--- nothing.
+-- `values::operands::ones_of` meets its contract: all ones, shifted by what the width leaves of 64 bits.
 use borrow.Author.Rules.{rules}
 use mathlib.Core.Path.{◌≡◌, refl}
 use Prim.Native.Nat.{ℕ, ◌-◌, ◌*◌, ◌/◌, ◌%◌, ◌^◌, ◌≤◌, ◌<◌}
@@ -7,8 +6,7 @@ use native.Mathlib.Omega.{arith}
 use Rattle.isa.specs.declared.Width.{Width}
 use Rattle.isa.specs.declared.Width.TheVariants.{B, H, W, D}
 use Rattle.isa.specs.Widths.{bits, width_code}
-use Rattle.values.proofs.operands.ones_of.Statement.{statement}
-use Rattle.values.proofs.operands.ones_of.Tie as tie
+use Rattle.values.proofs.operands.ones_of.Goals as goal
 
 width-bits : (w : Width) → 8 * 2 ^ width_code w % 18446744073709551616 ≡ bits w
 width-bits B = refl
@@ -36,10 +34,14 @@ module _ (w : Width) {k : ℕ} (e : k ≡ width_code w) where
   ones-by-code : 18446744073709551615 / 2 ^ (64 - 8 * 2 ^ k % 18446744073709551616) ≡ 2 ^ bits w - 1
   ones-by-code = rw by_code (ones w)
 
-pub ones_of_spec : {M : Type 1} → statement M
-ones_of_spec =
-    tie.close
-    (tie.spec (λ c κs. search rules) (λ c. search rules) (λ c. omega (arith, c.width_code.ensures.1))
-    (λ c. omega (arith, by_code c.before.args.w c.width_code.ensures.0, (few c.before.args.w).1))
-    (λ c. omega (arith, by_code c.before.args.w c.width_code.ensures.0, (few c.before.args.w).0))
-    (λ c. ones-by-code c.before.args.w c.width_code.ensures.0))
+pub overflow_shl-result : goal.overflow_shl-result
+overflow_shl-result c = omega (arith, c.width_code.ensures.1)
+
+pub overflow_sub-result : goal.overflow_sub-result
+overflow_sub-result c = omega (arith, by_code c.args.w c.width_code.ensures.0, (few c.args.w).1)
+
+pub overflow_shr-result : goal.overflow_shr-result
+overflow_shr-result c = omega (arith, by_code c.args.w c.width_code.ensures.0, (few c.args.w).0)
+
+pub returns : goal.returns
+returns c = ones-by-code c.args.w c.width_code.ensures.0
