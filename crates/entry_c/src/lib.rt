@@ -32,7 +32,17 @@ pub extern "C" fn msa_step(
         result vectors.new generals.new work.new control.old
         control.new }
 {
-    entry::msa_step(program, program_base, table, table_base, vectors, generals, work, work_base, control)
+    entry::msa_step(
+        program,
+        program_base,
+        table,
+        table_base,
+        vectors,
+        generals,
+        work,
+        work_base,
+        control,
+    )
 }
 
 // One run of at most budget instructions.
@@ -56,7 +66,18 @@ pub extern "C" fn msa_run(
         result vectors.new generals.new work.new control.old
         control.new }
 {
-    entry::msa_run(program, program_base, table, table_base, vectors, generals, work, work_base, control, budget)
+    entry::msa_run(
+        program,
+        program_base,
+        table,
+        table_base,
+        vectors,
+        generals,
+        work,
+        work_base,
+        control,
+        budget,
+    )
 }
 
 // Why the next step would stop, or that it would not.
@@ -77,7 +98,17 @@ pub extern "C" fn msa_why(
         (machine vectors.now generals.now work.now
         (decoded control.now))) }
 {
-    entry::msa_why(program, program_base, table, table_base, vectors, generals, work, work_base, control)
+    entry::msa_why(
+        program,
+        program_base,
+        table,
+        table_base,
+        vectors,
+        generals,
+        work,
+        work_base,
+        control,
+    )
 }
 
 // How large a budget is enough for a run from this counter with a clear slot mark; 0 where none is known.

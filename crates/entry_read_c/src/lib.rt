@@ -33,5 +33,17 @@ pub extern "C" fn msa_run_read(
         result vectors.new generals.new work.new control.old
         control.new list.new }
 {
-    entry_read::msa_run_read(program, program_base, table, table_base, vectors, generals, work, work_base, control, list, budget)
+    entry_read::msa_run_read(
+        program,
+        program_base,
+        table,
+        table_base,
+        vectors,
+        generals,
+        work,
+        work_base,
+        control,
+        list,
+        budget,
+    )
 }

@@ -11,12 +11,12 @@ returns-then-m-gt63 c = sym (no_line c.args.m c.if-m-gt63.true)
 
 pub overflow_sub-result : goal.overflow_sub-result
 overflow_sub-result c = let h : c.args.m < 64 = omega arith in omega (
-      arith,
-      c.wide.ensures ∙ letter_at _ h,
-    )
+  arith,
+  c.wide.ensures ∙ letter_at _ h,
+)
 
 pub returns : goal.returns
 returns c = let h : c.args.m < 64 = omega arith in omega (
-      arith,
-      c.wide.ensures ∙ letter_at _ h,
-    )
+  arith,
+  c.wide.ensures ∙ letter_at _ h,
+)

@@ -14,10 +14,10 @@ overflow_add-result-2 c = let p = c in let a = p.args in omega (
 
 pub overflow_add-result : goal.overflow_add-result
 overflow_add-result c = let a = c.args in omega (
-      arith,
-      (half-lanes (shares a.w) a.s a.t
-          c.halved.ensures c.halved-2.ensures).below,
-    )
+  arith,
+  (half-lanes (shares a.w) a.s a.t
+      c.halved.ensures c.halved-2.ensures).below,
+)
 
 pub returns : goal.returns
 returns c = search (rules, mean-up)

@@ -61,43 +61,43 @@ nonzero_rem-at c =
 pub overflow_mul-at-then-c-eq0 : goal.overflow_mul-at-then-c-eq0
 overflow_mul-at-then-c-eq0 c =
     let came : Came c.args.s c.args.t (c.args.d / 2 ^ c.loop-p.p) c.args.m c.if-c-m-eq0.r =
-        elim c.if-c-m-eq0.branch [
-          then-c-m-eq0 w ↦ inl (w.if-c-m-eq0.true, w.r-is)
-        | else-c-m-eq0 w ↦ inr (w.if-c-m-eq0.false, w.r-is)
-        ] in
+    elim c.if-c-m-eq0.branch [
+      | then-c-m-eq0 w ↦ inl (w.if-c-m-eq0.true, w.r-is)
+      | else-c-m-eq0 w ↦ inr (w.if-c-m-eq0.false, w.r-is)
+    ] in
     let r = room c.args.w c.requires.1 c.requires.2 _ _ _ _ c.requires.4 c.requires.5 came in
     omega (arith, r)
 
 pub overflow_add-at : goal.overflow_add-at
 overflow_add-at c =
     let came : Came c.args.s c.args.t (c.args.d / 2 ^ c.loop-p.p) c.args.m c.if-c-m-eq0.r =
-        elim c.if-c-m-eq0.branch [
-          then-c-m-eq0 w ↦ inl (w.if-c-m-eq0.true, w.r-is)
-        | else-c-m-eq0 w ↦ inr (w.if-c-m-eq0.false, w.r-is)
-        ] in
+    elim c.if-c-m-eq0.branch [
+      | then-c-m-eq0 w ↦ inl (w.if-c-m-eq0.true, w.r-is)
+      | else-c-m-eq0 w ↦ inr (w.if-c-m-eq0.false, w.r-is)
+    ] in
     let r = room c.args.w c.requires.1 c.requires.2 _ _ _ _ c.requires.4 c.requires.5 came in
     omega (arith, r)
 
 pub item-requires : goal.item-requires
 item-requires c =
     let came : Came c.args.s c.args.t (c.args.d / 2 ^ c.loop-p.p) c.args.m c.if-c-m-eq0.r =
-        elim c.if-c-m-eq0.branch [
-          then-c-m-eq0 w ↦ inl (w.if-c-m-eq0.true, w.r-is)
-        | else-c-m-eq0 w ↦ inr (w.if-c-m-eq0.false, w.r-is)
-        ] in
+    elim c.if-c-m-eq0.branch [
+      | then-c-m-eq0 w ↦ inl (w.if-c-m-eq0.true, w.r-is)
+      | else-c-m-eq0 w ↦ inr (w.if-c-m-eq0.false, w.r-is)
+    ] in
     let r = room c.args.w c.requires.1 c.requires.2 _ _ _ _ c.requires.4 c.requires.5 came in
     omega (arith, r, c.requires.3)
 
 pub overflow_add-out : goal.overflow_add-out
 overflow_add-out c =
     let came : Came c.args.s c.args.t (c.args.d / 2 ^ c.loop-p.p) c.args.m c.if-c-m-eq0.r =
-        elim c.if-c-m-eq0.branch [
-          then-c-m-eq0 w ↦ inl (w.if-c-m-eq0.true, w.r-is)
-        | else-c-m-eq0 w ↦ inr (w.if-c-m-eq0.false, w.r-is)
-        ] in
+    elim c.if-c-m-eq0.branch [
+      | then-c-m-eq0 w ↦ inl (w.if-c-m-eq0.true, w.r-is)
+      | else-c-m-eq0 w ↦ inr (w.if-c-m-eq0.false, w.r-is)
+    ] in
     let are : AreBytes c.args.file.now = λ k. omega (arith, c.type_inv.file k) in
     let x = c.item.ensures ∙ is c.args.w c.requires.1 c.requires.2 _ _ _ _ c.requires.4 c.requires.5 came
-        c.requires.0 c.args.file.now are c.requires.3 c.if-c-eq0.true in
+    c.requires.0 c.args.file.now are c.requires.3 c.if-c-eq0.true in
     omega (arith, put-fits c.loop-p.invariant c.loop-p-test.true x)
 
 pub overflow_add-p : goal.overflow_add-p
@@ -112,16 +112,16 @@ loop-p-preserved c =
     let room = c.loop-p-test.true in
     let are : AreBytes c.args.file.now = λ k. omega (arith, c.type_inv.file k) in
     elim c.if-c-eq0.branch [
-      then-c-eq0 w ↦
-        let came : Came c.args.s c.args.t (c.args.d / 2 ^ c.loop-p.p) c.args.m w.if-c-m-eq0.r =
-            elim w.if-c-m-eq0.branch [
-              then-c-m-eq0 v ↦ inl (v.if-c-m-eq0.true, v.r-is)
+      | then-c-eq0 w ↦
+          let came : Came c.args.s c.args.t (c.args.d / 2 ^ c.loop-p.p) c.args.m w.if-c-m-eq0.r =
+          elim w.if-c-m-eq0.branch [
+            | then-c-m-eq0 v ↦ inl (v.if-c-m-eq0.true, v.r-is)
             | else-c-m-eq0 v ↦ inr (v.if-c-m-eq0.false, v.r-is)
-            ] in
-        let x = w.item.ensures ∙ is c.args.w c.requires.1 c.requires.2 _ _ _ _ c.requires.4 c.requires.5 came
-            c.requires.0 c.args.file.now are c.requires.3 w.if-c-eq0.true in
-        rw w.out-is (put-taken inv room x)
-    | else-c-eq0 w ↦ rw w.out-is (turn-left inv room w.if-c-eq0.false)
+          ] in
+          let x = w.item.ensures ∙ is c.args.w c.requires.1 c.requires.2 _ _ _ _ c.requires.4 c.requires.5 came
+          c.requires.0 c.args.file.now are c.requires.3 w.if-c-eq0.true in
+          rw w.out-is (put-taken inv room x)
+      | else-c-eq0 w ↦ rw w.out-is (turn-left inv room w.if-c-eq0.false)
     ]
 
 pub returns : goal.returns

@@ -33,7 +33,7 @@ module _ (w : Width) {b m : ℕ} (eb : b ≡ bytes w) (em : m ≡ 128 / bits w) 
         (λ k. rw (k.1, eb, em, en) (filed-second file are long w _ _ c taken hs (rw em at k.0))) came
 
 abbrev pub invariant-loop-p : goal.invariant-loop-p
-invariant-loop-p l =     Turn l.d (register_at l.file (record { 0 = l.s })) (register_at l.file (record { 0 = l.t })) l.n (2 ^ l.n - 1) (256 / l.n - 1) l.out l.p
+invariant-loop-p l = Turn l.d (register_at l.file (record { 0 = l.s })) (register_at l.file (record { 0 = l.t })) l.n (2 ^ l.n - 1) (256 / l.n - 1) l.out l.p
 
 abbrev pub decreases-loop-p : goal.decreases-loop-p
 decreases-loop-p l = 64 - l.p

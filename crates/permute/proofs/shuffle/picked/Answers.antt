@@ -48,8 +48,8 @@ loop-p-preserved c =
       t = inv.t;
       s = inv.s;
       turn = elim c.if-c-eq0.branch [
-        then-c-eq0 w ↦ rw w.out-is (turn-taken inv.turn room w.if-c-eq0.true (held_word inv))
-      | else-c-eq0 w ↦ rw w.out-is (turn-left inv.turn room w.if-c-eq0.false)
+        | then-c-eq0 w ↦ rw w.out-is (turn-taken inv.turn room w.if-c-eq0.true (held_word inv))
+        | else-c-eq0 w ↦ rw w.out-is (turn-left inv.turn room w.if-c-eq0.false)
       ];
     }
 
