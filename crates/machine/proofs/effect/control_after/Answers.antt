@@ -1,5 +1,4 @@
 -- `machine::effect::control_after`: by the plan.
-use Rattle.std.proofs.Common.{rules}
 use Rattle.machine.proofs.effect.control_after.Goals as goal
 
 pub returns-in-Nothing : goal.returns-in-Nothing

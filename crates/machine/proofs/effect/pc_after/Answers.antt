@@ -1,5 +1,4 @@
 -- `machine::effect::pc_after`: by the mark.
-use Rattle.std.proofs.Common.{rules}
 use Rattle.machine.proofs.effect.pc_after.Goals as goal
 
 pub returns-in-Clear : goal.returns-in-Clear

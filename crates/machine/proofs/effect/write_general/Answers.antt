@@ -1,6 +1,6 @@
 -- `machine::effect::write_general`: dropped, or the eight bytes are put.
 use Rattle.machine.specs.Effect.{with_general}
-use Rattle.std.proofs.Common.{rules, eq-eqb, ne_eqb}
+use Rattle.std.proofs.Common.{eq-eqb, ne_eqb}
 use Rattle.machine.proofs.effect.write_general.Goals as goal
 
 pub returns-then-n-eq0 : goal.returns-then-n-eq0

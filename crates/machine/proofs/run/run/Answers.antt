@@ -2,7 +2,7 @@
 use Rattle.state.proofs.Said.{setup-is}
 use Rattle.state.proofs.SetupLaws.{accepted}
 use Rattle.state.specs.Machine.{env, machine}
-use Rattle.std.proofs.Common.{sym, refl, ◌∙◌, rules}
+use Rattle.std.proofs.Common.{sym, refl, ◌∙◌}
 use Rattle.machine.proofs.run.run.Goals as goal
 
 pub turns-requires : goal.turns-requires

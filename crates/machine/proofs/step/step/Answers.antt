@@ -4,7 +4,7 @@ use Rattle.machine.proofs.StepLaws.{ran-is}
 use Rattle.state.proofs.Said.{setup-is}
 use Rattle.state.proofs.SetupLaws.{accepted}
 use Rattle.state.specs.Machine.{env, machine}
-use Rattle.std.proofs.Common.{sym, refl, ◌∙◌, rules}
+use Rattle.std.proofs.Common.{sym, refl, ◌∙◌}
 use Rattle.machine.proofs.step.step.Goals as goal
 
 pub turns-e-requires : goal.turns-e-requires

@@ -1,5 +1,4 @@
 -- `machine::turns::as_step` meets its contract.
-use Rattle.std.proofs.Common.{rules}
 use Rattle.machine.proofs.turns.as_step.Goals as goal
 
 pub returns-in-Refused : goal.returns-in-Refused

@@ -1,6 +1,6 @@
 -- `machine::turns::turns`. The invariant: the run so far and the run that is left are the whole run.
-use Rattle.std.proofs.Common.{◌≡◌, ◌-◌, ◌≤◌, length, refl, arith, rules}
-use Rattle.machine.proofs.RunLaws.{Sofar, sofar-none, sofar-more, sofar-stopped, sofar-spent}
+use Rattle.std.proofs.Common.{refl, rules}
+use Rattle.machine.proofs.RunLaws.{sofar-none, sofar-more, sofar-stopped, sofar-spent}
 use Rattle.machine.specs.Run.{runs}
 use Rattle.state.specs.Machine.{env, machine}
 use Rattle.machine.proofs.turns.turns.Goals as goal

@@ -1,5 +1,4 @@
 -- `machine::why::cause_of`: by the outcome.
-use Rattle.std.proofs.Common.{rules}
 use Rattle.machine.proofs.why.cause_of.Goals as goal
 
 pub returns-in-Finished : goal.returns-in-Finished

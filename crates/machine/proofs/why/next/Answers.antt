@@ -2,7 +2,6 @@
 use Rattle.machine.proofs.AheadLaws.{step-ends}
 use Rattle.machine.specs.Why.{next_of}
 use Rattle.state.proofs.Said.{fetched-is}
-use Rattle.std.proofs.Common.{rules}
 use Rattle.machine.proofs.why.next.Goals as goal
 
 pub returns : goal.returns

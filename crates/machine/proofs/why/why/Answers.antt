@@ -3,7 +3,7 @@ use Rattle.state.proofs.Said.{setup-is}
 use Rattle.state.proofs.SetupLaws.{accepted}
 use Rattle.state.specs.Machine.{env, machine}
 use Rattle.machine.proofs.WhyLaws.{meets}
-use Rattle.std.proofs.Common.{sym, refl, ◌∙◌, rules}
+use Rattle.std.proofs.Common.{sym, refl, ◌∙◌}
 use Rattle.machine.proofs.why.why.Goals as goal
 
 pub next-requires : goal.next-requires

@@ -1,7 +1,6 @@
 -- `plan::address::target_of`: sums and products modulo 2^64 are those of the numbers.
 use Rattle.plan.proofs.NumberLaws.{scaled-sum-on}
 use Rattle.plan.specs.Numbers.{target}
-use borrow.Author.Rules.{rules}
 use mathlib.Core.Path.{sym}
 use Rattle.plan.proofs.address.target_of.Goals as goal
 

@@ -1,5 +1,4 @@
 -- `plan::ahead::place_early`: each arm puts what `locate` answered into the definition.
-use borrow.Author.Rules.{rules}
 use Rattle.plan.proofs.ahead.place_early.Goals as goal
 
 pub returns-in-Table : goal.returns-in-Table

@@ -1,5 +1,4 @@
 -- `plan::ahead::stop_ahead`: by what the word says; a call's answer goes into the definition.
-use borrow.Author.Rules.{rules}
 use Rattle.plan.proofs.ahead.stop_ahead.Goals as goal
 
 pub address-x-requires : goal.address-x-requires

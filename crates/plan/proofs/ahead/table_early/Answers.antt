@@ -1,5 +1,4 @@
 -- `plan::ahead::table_early`: by the operation.
-use borrow.Author.Rules.{rules}
 use Rattle.plan.proofs.ahead.table_early.Goals as goal
 
 pub returns-in-St : goal.returns-in-St

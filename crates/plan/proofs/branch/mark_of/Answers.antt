@@ -1,5 +1,4 @@
 -- `plan::branch::mark_of`: by the test.
-use borrow.Author.Rules.{rules}
 use Rattle.plan.proofs.branch.mark_of.Goals as goal
 
 pub returns-then-taken : goal.returns-then-taken

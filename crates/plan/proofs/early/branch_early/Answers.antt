@@ -1,5 +1,4 @@
 -- `plan::early::branch_early`: by the mark.
-use borrow.Author.Rules.{rules}
 use mathlib.Core.Path.{refl}
 use Rattle.plan.proofs.early.branch_early.Goals as goal
 

@@ -1,5 +1,4 @@
 -- `plan::early::switched_early`: by the test.
-use borrow.Author.Rules.{rules}
 use Rattle.plan.proofs.early.switched_early.Goals as goal
 
 pub returns-else-on : goal.returns-else-on

@@ -1,5 +1,4 @@
 -- `plan::moves::access`: by the operation.
-use borrow.Author.Rules.{rules}
 use Rattle.plan.proofs.moves.access.Goals as goal
 
 pub returns-in-Ld : goal.returns-in-Ld

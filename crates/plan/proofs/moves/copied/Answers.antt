@@ -1,5 +1,4 @@
 -- `plan::moves::copied`: by the operation.
-use borrow.Author.Rules.{rules}
 use Rattle.plan.proofs.moves.copied.Goals as goal
 
 pub returns-in-CopyS : goal.returns-in-CopyS

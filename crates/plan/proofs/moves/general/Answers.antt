@@ -5,7 +5,6 @@ use Prim.Native.Nat.{◌*◌}
 use Rattle.memory.specs.Bytes.{number}
 use Rattle.memory.proofs.Parts.{part-past}
 use Rattle.plan.specs.Plan.{general_at}
-use borrow.Author.Rules.{rules}
 use Rattle.plan.proofs.moves.general.Goals as goal
 
 pub returns-then-r-gt31 : goal.returns-then-r-gt31

@@ -2,7 +2,6 @@
 use Rattle.plan.specs.declared.Plan.TheVariants.{Store}
 use Rattle.isa.specs.Widths.{bytes}
 use Rattle.order.proofs.TurnLaws.{turned-held}
-use borrow.Author.Rules.{rules}
 use mathlib.Core.Path.{ap, ◌∙◌}
 use Rattle.plan.proofs.moves.store.Goals as goal
 

@@ -1,5 +1,4 @@
 -- `plan::moves::to_control`, test by test.
-use borrow.Author.Rules.{rules}
 use borrow.Author.Tests.{eq-eqb, ne_eqb}
 use Rattle.plan.proofs.moves.to_control.Goals as goal
 

@@ -1,5 +1,4 @@
 -- `plan::planned::early_stop`: by the kind.
-use borrow.Author.Rules.{rules}
 use Rattle.plan.proofs.planned.early_stop.Goals as goal
 
 pub returns-in-Branching : goal.returns-in-Branching

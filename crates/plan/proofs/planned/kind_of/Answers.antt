@@ -1,5 +1,4 @@
 -- `plan::planned::kind_of`: by the instruction's class.
-use borrow.Author.Rules.{rules}
 use Rattle.plan.proofs.planned.kind_of.Goals as goal
 
 pub returns-in-Three : goal.returns-in-Three

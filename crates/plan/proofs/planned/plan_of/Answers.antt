@@ -1,7 +1,5 @@
 -- `plan::planned::plan_of`: the early stop is tested, and the rest is `execute`'s.
-use Rattle.plan.specs.Plan.{plan_of, early}
-use borrow.Author.Rules.{rules}
-use mathlib.Core.Path.{sym, ap, ◌∙◌}
+use Rattle.plan.specs.Plan.{plan_of}
 use Rattle.plan.proofs.planned.plan_of.Goals as goal
 
 pub returns-in-Go : goal.returns-in-Go

@@ -1,7 +1,6 @@
 -- `plan::scaled::dlsa_of`: the sum of the product.
 use Rattle.plan.proofs.NumberLaws.{mul-add}
 use Rattle.plan.specs.Numbers.{dlsa}
-use borrow.Author.Rules.{rules}
 use Rattle.plan.proofs.scaled.dlsa_of.Goals as goal
 
 pub returns : goal.returns

@@ -1,5 +1,5 @@
 -- `plan::scaled::factor`: an arm for each shift.
-use Prim.Native.Nat.{ℕ, ◌+◌, ◌^◌}
+use Prim.Native.Nat.{◌+◌, ◌^◌}
 use mathlib.Core.Path.{◌≡◌, sym, ap}
 use native.Mathlib.Omega.{arith}
 use Rattle.plan.proofs.scaled.factor.Goals as goal

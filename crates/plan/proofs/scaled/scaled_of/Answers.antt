@@ -1,5 +1,4 @@
 -- `plan::scaled::scaled_of`: by the operation.
-use borrow.Author.Rules.{rules}
 use Rattle.plan.proofs.scaled.scaled_of.Goals as goal
 
 pub returns-in-Lsa : goal.returns-in-Lsa

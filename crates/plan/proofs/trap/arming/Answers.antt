@@ -1,5 +1,4 @@
 -- `plan::trap::arming` puts the tests together.
-use borrow.Author.Rules.{rules}
 use Rattle.plan.proofs.trap.arming.Goals as goal
 
 pub returns-then-bit : goal.returns-then-bit

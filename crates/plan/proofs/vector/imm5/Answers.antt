@@ -1,5 +1,4 @@
 -- `plan::vector::imm5` hands on what the registers hold.
-use borrow.Author.Rules.{rules}
 use Rattle.plan.proofs.vector.imm5.Goals as goal
 
 pub returns : goal.returns

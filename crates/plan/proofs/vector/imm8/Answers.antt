@@ -2,7 +2,6 @@
 use Rattle.memory.specs.Value.{register}
 use Rattle.plan.proofs.VecLaws.{same-together}
 use Rattle.plan.specs.declared.Plan.TheVariants.{Vector}
-use borrow.Author.Rules.{rules}
 use mathlib.Core.Path.{refl, ap, ◌∙◌}
 use Rattle.plan.proofs.vector.imm8.Goals as goal
 

@@ -2,8 +2,7 @@
 use Rattle.memory.specs.Value.{register}
 use Rattle.plan.proofs.VecLaws.{same-together}
 use Rattle.plan.specs.declared.Plan.TheVariants.{Vector}
-use borrow.Author.Rules.{rules}
-use mathlib.Core.Path.{refl, ap, ◌∙◌}
+use mathlib.Core.Path.{ap, ◌∙◌}
 use Rattle.plan.proofs.vector.vec.Goals as goal
 
 pub returns : goal.returns

@@ -2,7 +2,6 @@
 use Prim.Native.Nat.{◌^◌}
 use Rattle.plan.proofs.ZeroLaws.{both_zero}
 use Rattle.plan.specs.Zero.{taken_if}
-use borrow.Author.Rules.{rules}
 use lib.Pow.{pow_pos}
 use mathlib.Core.Path.{ap, ◌∙◌}
 use Rattle.plan.proofs.zero.taken_v.Goals as goal

@@ -3,7 +3,7 @@ use Rattle.state.proofs.FetchLaws.{fetched-below, fetched-odd, fetched-past, fet
 use Rattle.state.specs.declared.fetch.Fetched.{Fetched}
 use Rattle.state.specs.declared.fetch.Fetched.TheVariants.{Word}
 use Rattle.state.specs.Fetch.{fetched, fetched_said, Fetches}
-use Rattle.std.proofs.Common.{◌≡◌, ℕ, List, sym, ap, ◌∙◌, arith, rules}
+use Rattle.std.proofs.Common.{◌≡◌, ℕ, List, sym, ap, ◌∙◌, arith}
 use Rattle.state.proofs.fetch.word_at.Goals as goal
 
 fetches : {p : List ℕ} {base pc : ℕ} {r : Fetched} → r ≡ fetched p base pc → Fetches p base pc r

@@ -1,7 +1,7 @@
 -- `state::setup::check`: the first limit is tested, and the rest is `later`'s.
 use Rattle.state.proofs.TestLaws.{generals-sized}
 use Rattle.state.specs.Setup.{setup_number, refusal, first}
-use Rattle.std.proofs.Common.{length, sym, refl, ap, ◌∙◌, rules}
+use Rattle.std.proofs.Common.{length, sym, refl, ap, ◌∙◌}
 use Rattle.state.proofs.setup.check.Goals as goal
 
 pub later-requires : goal.later-requires

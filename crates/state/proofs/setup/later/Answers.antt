@@ -1,6 +1,6 @@
 -- `state::setup::later` puts the calls' answers together.
 use Rattle.state.specs.Setup.{first}
-use Rattle.std.proofs.Common.{refl, rules}
+use Rattle.std.proofs.Common.{refl}
 use Rattle.state.proofs.setup.later.Goals as goal
 
 pub returns : goal.returns

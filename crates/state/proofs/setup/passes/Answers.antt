@@ -1,5 +1,5 @@
 -- `state::setup::passes`: the test without the sum that would wrap.
-use Rattle.std.proofs.Common.{◌+◌, ◌-◌, ◌^◌, sym, arith, rules, le-ltb}
+use Rattle.std.proofs.Common.{◌+◌, ◌-◌, ◌^◌, sym, arith, le-ltb}
 use Rattle.state.proofs.TestLaws.{ltb-same}
 use Rattle.state.proofs.setup.passes.Goals as goal
 

@@ -1,5 +1,4 @@
 -- `state::setup::unless`: by the test.
-use Rattle.std.proofs.Common.{rules}
 use Rattle.state.proofs.setup.unless.Goals as goal
 
 pub returns-then-broken : goal.returns-then-broken

@@ -1,6 +1,5 @@
 -- `state::windows::first_outside`: of the addresses that are left the first outside is that of all sixteen. Assumes
-use Rattle.std.proofs.Common.{◌≡◌, sym, refl, ◌∙◌, arith, rules}
-use Rattle.state.specs.Windows.{first_outside}
+use Rattle.std.proofs.Common.{sym, ◌∙◌, arith}
 use Rattle.state.proofs.WindowLaws.{outside-on, outside-here, outside-none}
 use Rattle.state.proofs.windows.first_outside.Goals as goal
 

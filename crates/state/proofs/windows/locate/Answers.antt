@@ -1,5 +1,4 @@
 -- `state::windows::locate`: each arm puts what was answered into the definition.
-use Rattle.std.proofs.Common.{rules}
 use Rattle.state.proofs.windows.locate.Goals as goal
 
 pub returns-in-At : goal.returns-in-At

@@ -1,5 +1,5 @@
 -- `state::windows::missing_of`, by the two laws of `missing`.
-use Rattle.std.proofs.Common.{sym, ◌∙◌, rules}
+use Rattle.std.proofs.Common.{sym, ◌∙◌}
 use Rattle.state.proofs.WindowLaws.{missing-table, missing-other}
 use Rattle.state.proofs.windows.missing_of.Goals as goal
 
