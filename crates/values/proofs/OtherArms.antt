@@ -17,7 +17,6 @@ use Rattle.isa.specs.Widths.{bits}
 use Rattle.lanes.specs.declared.Lane.TheVariants as lane
 use Rattle.lanes.specs.Lane.{lane_of}
 use Rattle.each.proofs.Words.{both_words}
-use Rattle.each.specs.Lanes.{each_lane}
 use Rattle.entries.specs.Cut.{code_of, width_of, imm_of}
 use Rattle.forms.specs.Forms.{bit_of, count_of, fixed_of}
 use Rattle.memory.specs.declared.Register.{Register}

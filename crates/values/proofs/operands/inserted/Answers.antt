@@ -1,5 +1,4 @@
 -- `values::operands::inserted` meets its contract: each answer of the flag has its arm.
-use borrow.Author.Rules.{rules}
 use Rattle.values.proofs.operands.inserted.Goals as goal
 
 pub returns-then-flag_of : goal.returns-then-flag_of
@@ -8,8 +7,8 @@ returns-then-flag_of c = rw (← c.flag_of.ensures, c.if-flag_of.true, ← c.wid
 
 pub returns-else-flag_of : goal.returns-else-flag_of
 returns-else-flag_of c = rw (
-      ← c.flag_of.ensures,
-      c.if-flag_of.false,
-      ← c.source_of.ensures.0,
-    )
+  ← c.flag_of.ensures,
+  c.if-flag_of.false,
+  ← c.source_of.ensures.0,
+)
     c.general.ensures

@@ -1,5 +1,4 @@
 -- `values::operands::scalar` meets its contract: each answer of the flag has its arm.
-use borrow.Author.Rules.{rules}
 use Rattle.values.proofs.operands.scalar.Goals as goal
 
 pub returns-then-flag_of : goal.returns-then-flag_of

@@ -1,5 +1,4 @@
 -- `values::operands::third` meets its contract: each answer of the flag has its arm, and both hold their number.
-use borrow.Author.Rules.{rules}
 use mathlib.Core.Path.{◌∙◌, ap}
 use Rattle.memory.specs.Value.{value}
 use Rattle.vectors.proofs.Sizes.{shares}
@@ -21,8 +20,8 @@ returns-then-flag_of c = let w = c.width_of in
 
 pub returns-else-flag_of : goal.returns-else-flag_of
 returns-else-flag_of c = rw (
-      ← c.flag_of.ensures,
-      c.if-flag_of.false,
-      ← c.third_of.ensures.0,
-    )
+  ← c.flag_of.ensures,
+  c.if-flag_of.false,
+  ← c.third_of.ensures.0,
+)
     c.read_register.ensures

@@ -1,6 +1,5 @@
 -- `values::others::narrow` meets its contract: one answer for each.
 use borrow.Author.Tests.{eq-eqb, ne_eqb}
-use mathlib.Core.Path.{refl}
 use lib.Dec.{lit≤}
 use Rattle.values.proofs.others.narrow.Goals as goal
 

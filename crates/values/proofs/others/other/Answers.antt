@@ -1,5 +1,4 @@
 -- `values::others::other` meets its contract: an arm a code, each with the operands that it reads.
-use borrow.Author.Rules.{rules}
 use mathlib.Core.Path.{refl}
 use Rattle.isa.specs.declared.Count.TheVariants.{Pcnt, Nloc, Nlzc}
 use Rattle.isa.specs.declared.Fixed.TheVariants.{MulQ, MaddQ, MsubQ, MulrQ, MaddrQ, MsubrQ}

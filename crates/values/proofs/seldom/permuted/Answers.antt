@@ -1,5 +1,4 @@
 -- `values::seldom::permuted` meets its contract: the packs, and elsewhere VSHF stands.
-use borrow.Author.Rules.{rules}
 use mathlib.Core.Path.{◌≡◌}
 use Rattle.values.proofs.seldom.permuted.Goals.{then-c-gt73+else-c-lt80, else-c-gt73}
 use Prim.Native.Nat.{◌+◌}
@@ -16,7 +15,7 @@ returns c =
     let a = c.args in
     let vshf : three_at (a.c + 88) ≡ three.Vshf =
     elim c.if-c-gt73.branch [
-      then-c-gt73+else-c-lt80 w ↦ vshf-after a.c c.requires w.if-c-lt80.false
+      | then-c-gt73+else-c-lt80 w ↦ vshf-after a.c c.requires w.if-c-lt80.false
       | else-c-gt73 w ↦ vshf-before a.c c.requires w.if-c-gt73.false
     ] in
     rw vshf c.vshf.ensures

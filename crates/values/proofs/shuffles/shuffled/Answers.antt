@@ -7,7 +7,7 @@ use Rattle.isa.specs.declared.Width.{Width}
 use Rattle.isa.specs.Widths.{bits}
 use Rattle.memory.specs.declared.Register.{Register}
 use Rattle.memory.specs.File.{register_at}
-use Rattle.memory.specs.Value.{value, register}
+use Rattle.memory.specs.Value.{register}
 use Rattle.permute.specs.Permute.{chosen_by_control}
 use Rattle.permute.proofs.ControlLaws.{both-chosen}
 use Rattle.vectors.specs.Register.{whole}

@@ -1,0 +1,10 @@
+-- `listed::common::address_of` meets its contract.
+use Rattle.std.proofs.Common.{rules}
+use Rattle.listed.proofs.common.address_of.Goals as goal
+
+pub returns : goal.returns
+returns c = rw (
+  ← c.source_of.ensures.0,
+  ← c.extended.ensures,
+  ← c.general.ensures,
+) c.wrapping_add_u64.ensures.value

@@ -1,0 +1,46 @@
+-- `listed::run::run`: refused, or run by `accepted`. It meets its contract.
+use Rattle.std.proofs.Common.{sym, refl, ◌∙◌, rules}
+use Rattle.listed.proofs.FilledLaws.{stands}
+use Rattle.state.proofs.Said.{setup-is}
+use Rattle.state.proofs.SetupLaws as setup
+use Rattle.state.proofs.SetupLaws.{program-accepted}
+use Rattle.state.specs.Machine.{env, machine}
+use Rattle.listed.proofs.run.run.Goals as goal
+
+pub accepted-requires : goal.accepted-requires
+accepted-requires c =
+    let a = c.args in
+    let e = env a.board a.table.now in
+    let m = machine a.vectors.now a.generals.now a.work.now a.c in
+    let is = sym (setup-is c.check.ensures) ∙
+    c.in-Accepted.is in
+    let sized = setup.accepted a.program.now e m is in (
+      sized.vectors,
+      sized.generals,
+      stands a.board.program a.program.now
+          (program-accepted a.program.now e m is),
+    )
+
+pub returns-in-Accepted : goal.returns-in-Accepted
+returns-in-Accepted c = rw (
+  ← setup-is
+      c.check.ensures,
+  c.in-Accepted.is,
+) c.accepted.ensures
+
+pub returns-in-Refused : goal.returns-in-Refused
+returns-in-Refused c =
+    rw (← setup-is c.check.ensures, c.in-Refused.is)
+    (record {
+      short = refl;
+      ended = record {
+        reason = refl;
+        carried = refl;
+        count = refl;
+        control = refl;
+        vec = refl;
+        gen = refl;
+        work = refl;
+      };
+      list = refl;
+    })
