@@ -1,5 +1,7 @@
-// The control block lent by `&mut`: a thin function over the by-value step, proved by hand. The block is read and stored whole; every branch
-// is in the step that is called.
+// The control block lent by `&mut`: a thin function over the by-value step. The block is read and stored whole; every
+// branch is in the step that is called.
+#![tactic(auto)]
+
 ghost use Rattle.state.specs.Machine.{env, machine};
 ghost use Rattle.machine.specs.Step.{whole_step, WholeIs};
 ghost use Rattle.lent.specs.Lent.{answered};
