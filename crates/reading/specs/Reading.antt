@@ -1,5 +1,5 @@
 -- What a word reads as: its operation's place in the table, and the operands that the class there has.
-use Rattle.std.specs.Prelude.{◌≡◌, Bool, true, cond, ℕ, ◌*◌, ltb, eqb}
+use Rattle.std.specs.Prelude.{◌≡◌, Bool, cond, ℕ, ◌*◌, ltb, eqb}
 use Rattle.isa.specs.declared.Vreg.{Vreg}
 use Rattle.isa.specs.declared.Greg.{Greg}
 use Rattle.isa.specs.declared.Creg.{Creg}

@@ -2,16 +2,11 @@
 use mathlib.Core.Path.{◌≡◌, refl, sym, ap, ◌∙◌}
 use mathlib.Core.Bool.{Bool, true, false}
 use mathlib.Core.List.{List, [], ◌∷◌, ◌++◌, append_assoc, append-nil}
-use Prim.Native.Nat.{ℕ, ◌+◌, ◌≤◌, ◌<◌}
-use native.Mathlib.Omega.{arith}
-use borrow.Author.Tests.{leb-true, le-ltb, ne_eqb}
-use lib.Dec.{eqb, leb, ltb}
-use lib.ListN.{length, get_or}
-use Rattle.fields.specs.Fields.{pick, both}
-use Rattle.fields.proofs.Fields.{both_left, both_right}
+use Prim.Native.Nat.{ℕ, ◌<◌}
+use lib.Dec.{eqb}
+use Rattle.fields.specs.Fields.{pick}
 use Rattle.text.specs.Text.{bytes}
 use Rattle.text.specs.Numerals.{decimal}
-use Rattle.shown.specs.declared.Number.{Number}
 use Rattle.shown.specs.declared.Operand.{Operand}
 use Rattle.shown.specs.declared.Operand.TheVariants as operand
 use Rattle.operands.specs.Operands.{operand_text, next_text, operands_text}

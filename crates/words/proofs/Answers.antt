@@ -1,6 +1,6 @@
 -- The answers to a word under its major opcode, what is formed, and that the promises leave one answer. Assumes
 -- nothing.
-use mathlib.Core.Path.{◌≡◌, refl, sym, ◌∙◌}
+use mathlib.Core.Path.{refl, sym, ◌∙◌}
 use Prim.Native.Nat.{ℕ, ◌<◌, ◌^◌}
 use borrow.Author.Tests.{ltb-true}
 use lib.Dec.{ltb}

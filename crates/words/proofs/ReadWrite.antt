@@ -1,8 +1,8 @@
 -- A word that reads as an instruction is the word of that instruction. Assumes nothing.
-use mathlib.Core.Path.{◌≡◌, refl, sym, ◌∙◌, subst}
+use mathlib.Core.Path.{◌≡◌, refl, sym, subst}
 use mathlib.Core.Bool.{Bool, true, false, cond}
 use mathlib.Core.List.{[], ◌∷◌}
-use Prim.Native.Nat.{ℕ, zero, suc, ◌+◌, ◌-◌, ◌*◌, ◌/◌, ◌%◌, ◌^◌, ◌<◌, ◌≤◌}
+use Prim.Native.Nat.{ℕ, zero, suc, ◌-◌, ◌/◌, ◌%◌, ◌^◌, ◌<◌}
 use native.Mathlib.Omega.{arith}
 use borrow.Author.Tests.{eqb-true, eqb-false, lt-ltb}
 use lib.Dec.{eqb, ltb}
@@ -21,7 +21,7 @@ use Rattle.ops.specs.Places as place
 use Rattle.ops.specs.Table.{class_at, formats_at, has_form}
 use Rattle.reading.specs.declared.index.Index.{Index}
 use Rattle.fields.specs.Fields.{both, bits, total}
-use Rattle.reading.specs.Index.{at, bit_index, element_index}
+use Rattle.reading.specs.Index.{bit_index, element_index}
 use Rattle.reading.proofs.Ranges.{by-range}
 use Rattle.reading.specs.Reading as reading
 use Rattle.reading.specs.Reading.{Block, i8, minor, elm, elm62, vec, float, two, mi10, branch, special, shf}
@@ -31,7 +31,7 @@ use Rattle.writing.specs.Writing.{write_of, layout_of}
 use Rattle.words.specs.Theorems.{ReadWrite}
 use Rattle.fields.proofs.Fields.{both_left, both_right, cut, word_cut, fits_cut}
 use Rattle.writing.proofs.Shapes.{shaped}
-use Rattle.words.proofs.Blocks.{Facts, inside, cond-elim, below, found, standing, stood, at-28, sole}
+use Rattle.words.proofs.Blocks.{Facts, inside, cond-elim, found, stood, at-28, sole}
 
 -- an instruction whose fields are those of the word is written as the word
 writes : (i : Instr) (w : ℕ) → w < 4294967296 → (layout_of i).ok ≡ true

@@ -22,7 +22,6 @@ use Rattle.fields.specs.Fields.{fits}
 use Rattle.fields.proofs.Fields.{both_left}
 use Rattle.reading.specs.Reading.{i8, minor, mi10}
 use Rattle.writing.specs.Writing.{write_of, layout_of, bit_code, element_code}
-use Rattle.words.specs.Formed.{Formed}
 use Rattle.words.specs.Theorems as theorems
 use Rattle.words.proofs.Blocks.{inside, most, standing, stood}
 use Rattle.words.proofs.Fixed.{fixed-bit}

@@ -5,7 +5,6 @@ use mathlib.Core.Path.{◌≡◌, sym, ap, ◌∙◌}
 use native.Mathlib.Omega.{arith}
 use lib.ListN.{length, length-replicate, take, drop, replicate}
 use lib.Seq.{sets-eq}
-use borrow.Author.Rules.{rules}
 use borrow.Rule.Slice.PartMut.{put_mid, Post-is, mid_len, same_len_mid}
 use Rattle.text.proofs.Puts.{puts-as}
 use Rattle.text.specs.Text.{Puts}

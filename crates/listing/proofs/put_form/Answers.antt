@@ -1,7 +1,6 @@
 -- `listing::put_form` meets its contract.
 use Rattle.listing.specs.Listing as listing
-use Rattle.text.proofs.Puts.{puts_none, puts-as, room_as}
-use borrow.Author.Rules.{rules}
+use Rattle.text.proofs.Puts.{puts-as}
 use mathlib.Core.Path.{sym, ap}
 use Rattle.listing.proofs.put_form.Goals as goal
 

@@ -1,7 +1,6 @@
 -- `listing::put_letter` meets its contract.
 use Prim.Native.Nat.{ℕ}
 use Rattle.text.proofs.Puts.{puts-as, puts_then}
-use borrow.Author.Rules.{rules}
 use mathlib.Core.List.{[], ◌∷◌}
 use mathlib.Core.Path.{ap}
 use Rattle.listing.proofs.put_letter.Goals as goal

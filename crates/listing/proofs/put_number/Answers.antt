@@ -1,6 +1,5 @@
 -- `listing::put_number` meets its contract.
 use Rattle.text.proofs.Puts.{puts_then, room-left, room-right}
-use borrow.Author.Rules.{rules}
 use Rattle.listing.proofs.put_number.Goals as goal
 
 pub put_hex-next-requires : goal.put_hex-next-requires

@@ -5,7 +5,6 @@ use Rattle.reading.proofs.Said.{read_is}
 use Rattle.listing.specs.Listing.{read_text, part_text}
 use Rattle.text.proofs.Puts.{puts-as, room_as}
 use Rattle.text.specs.Text.{Room, Puts}
-use borrow.Author.Rules.{rules}
 use mathlib.Core.List.{List}
 use mathlib.Core.Path.{◌≡◌, sym, ap}
 use Rattle.listing.proofs.put_part.Goals as goal

@@ -11,7 +11,6 @@ use Rattle.shown.specs.declared.Shown.{Shown}
 use Rattle.text.proofs.Puts.{puts-as, room_as}
 use Rattle.text.specs.Numerals.{decimal}
 use Rattle.text.specs.Text.{bytes}
-use borrow.Author.Rules.{rules}
 use mathlib.Core.List.{◌++◌}
 use mathlib.Core.Path.{◌≡◌, sym}
 use Rattle.listing.proofs.put_read.Goals as goal

@@ -1,6 +1,5 @@
 -- `listing::put_reason` meets its contract.
 use Rattle.text.proofs.Puts.{puts_then}
-use borrow.Author.Rules.{rules}
 use Rattle.listing.proofs.put_reason.Goals as goal
 
 pub returns : goal.returns

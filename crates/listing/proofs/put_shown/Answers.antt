@@ -3,7 +3,6 @@ use Rattle.operands.specs.Operands.{operands_text}
 use Rattle.listing.specs.Listing as listing
 use Rattle.text.proofs.Puts.{puts_then, room-left, room-right}
 use Rattle.text.specs.Text.{bytes}
-use borrow.Author.Rules.{rules}
 use Rattle.listing.proofs.put_shown.Goals as goal
 
 pub put_name-form_at-requires : goal.put_name-form_at-requires

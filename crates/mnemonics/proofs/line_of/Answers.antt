@@ -2,7 +2,6 @@
 use mathlib.Core.Path.{sym, ◌∙◌}
 use Prim.Native.Nat.{◌<◌}
 use native.Mathlib.Omega.{arith}
-use borrow.Author.Rules.{rules}
 use Rattle.mnemonics.proofs.Names.{letter_at, no_line}
 use Rattle.mnemonics.proofs.line_of.Goals as goal
 

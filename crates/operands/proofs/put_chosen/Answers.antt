@@ -2,7 +2,6 @@
 use Rattle.operands.specs.Operands as operands
 use Rattle.text.proofs.Puts.{puts_then, room-left, room-right}
 use Rattle.text.specs.Text.{bytes}
-use borrow.Author.Rules.{rules}
 use Rattle.operands.proofs.put_chosen.Goals as goal
 
 pub put_vector-open-requires : goal.put_vector-open-requires

@@ -2,7 +2,6 @@
 use Rattle.text.proofs.Puts.{puts_then, room-left, room-right}
 use Rattle.text.specs.Numerals.{decimal}
 use Rattle.text.specs.Text.{bytes}
-use borrow.Author.Rules.{rules}
 use Rattle.operands.proofs.put_element.Goals as goal
 
 pub put_vector-open-requires : goal.put_vector-open-requires

@@ -4,7 +4,6 @@ use Rattle.fields.specs.Fields.{pick}
 use Rattle.text.proofs.Puts.{puts-as, puts_then, room_as, room-left, room-right}
 use Rattle.text.specs.Numerals.{decimal}
 use Rattle.text.specs.Text.{bytes}
-use borrow.Author.Rules.{rules}
 use mathlib.Core.Bool.{Bool}
 use mathlib.Core.List.{List, [], ◌++◌}
 use mathlib.Core.List.{◌++◌}

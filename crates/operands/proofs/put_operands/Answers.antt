@@ -1,7 +1,6 @@
 -- `operands::put_operands` meets its contract.
 use Rattle.operands.specs.Operands as operands
 use Rattle.text.proofs.Puts.{puts_then, room-left, room-right}
-use borrow.Author.Rules.{rules}
 use Rattle.operands.proofs.put_operands.Goals as goal
 
 pub put_operand-second-requires : goal.put_operand-second-requires

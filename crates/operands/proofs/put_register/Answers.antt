@@ -1,6 +1,5 @@
 -- `operands::put_register` meets its contract.
 use Rattle.text.proofs.Puts.{puts_then}
-use borrow.Author.Rules.{rules}
 use Rattle.operands.proofs.put_register.Goals as goal
 
 pub returns : goal.returns

@@ -1,6 +1,5 @@
 -- `reading::read_class` meets its contract: an arm a class.
 use Rattle.ops.proofs.Packed.{no-class}
-use borrow.Author.Rules.{rules}
 use Rattle.reading.proofs.read_class.Goals as goal
 
 pub returns-in-1 : goal.returns-in-1

@@ -5,7 +5,6 @@ use Rattle.isa.specs.Numbers.{read_said}
 use Rattle.ops.proofs.Packed.{class-in, formats-in}
 use Rattle.ops.specs.Table.{row_at}
 use Rattle.reading.specs.Reading.{place_of, vacant, read_of}
-use borrow.Author.Rules.{rules}
 use Rattle.reading.proofs.read_word.Goals as goal
 
 -- a word of no table

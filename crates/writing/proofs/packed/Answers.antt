@@ -1,13 +1,13 @@
 -- `writing::packed` meets its contract. The loop's invariant: the fields from place i on are put together, and all of them fit.
 use Prim.Native.Nat.{ℕ, ◌+◌, ◌-◌, ◌*◌, ◌^◌, ◌≤◌, ◌<◌}
 use mathlib.Core.Path.{◌≡◌}
-use mathlib.Core.Bool.{true, false}
+use mathlib.Core.Bool.{false}
 use mathlib.Core.List.{List, []}
 use native.Mathlib.Omega.{arith}
 use lib.ListN.{drop, get_or, length}
 use lib.Seq.{drop-length}
 use Rattle.isa.specs.declared.Written.TheVariants.{Word}
-use Rattle.fields.specs.Fields.{total, word_of, fits}
+use Rattle.fields.specs.Fields.{fits}
 use Rattle.writing.specs.Writing.{Shaped, packed}
 use Rattle.fields.proofs.Fields.{width_fits, word-step, scale-step, scale-lt, fits-step, word_below, word_lt, refused}
 use Rattle.writing.proofs.packed.Invariants.{Done}

@@ -1,5 +1,4 @@
 -- `writing::seal` meets its contract.
-use borrow.Author.Rules.{rules}
 use Rattle.writing.proofs.seal.Goals as goal
 
 pub returns-then-ok : goal.returns-then-ok

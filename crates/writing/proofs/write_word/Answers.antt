@@ -3,7 +3,6 @@ use mathlib.Core.Path.{ap}
 use Rattle.isa.specs.Numbers.{written_said}
 use Rattle.writing.specs.Writing.{write_of}
 use Rattle.writing.proofs.Shapes.{shaped}
-use borrow.Author.Rules.{rules}
 use Rattle.writing.proofs.write_word.Goals as goal
 
 pub returns : goal.returns

@@ -1,8 +1,6 @@
 -- `reading::ahead::ahead_of` meets its contract.
-use mathlib.Core.Path.{◌≡◌}
 use Rattle.ops.proofs.Packed.{class-in, formats-in}
 use Rattle.reading.specs.Reading.{place_of, read_of}
-use borrow.Author.Rules.{rules}
 use Rattle.reading.proofs.ahead.ahead_of.Goals as goal
 
 pub returns : goal.returns

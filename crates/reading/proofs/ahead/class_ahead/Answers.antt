@@ -4,7 +4,6 @@ use lib.Dec.{eqb}
 use Rattle.fields.specs.Fields.{bits}
 use Rattle.ops.proofs.Packed.{no-class}
 use Rattle.reading.proofs.Told.{told-given}
-use borrow.Author.Rules.{rules}
 use Rattle.reading.proofs.ahead.class_ahead.Goals as goal
 
 pub returns-in-1 : goal.returns-in-1

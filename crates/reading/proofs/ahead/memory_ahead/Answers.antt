@@ -1,7 +1,6 @@
 -- `reading::ahead::memory_ahead` meets its contract.
 use Rattle.reading.proofs.Low.{low2}
 use Rattle.reading.proofs.Told.{told-given}
-use borrow.Author.Rules.{rules}
 use Rattle.reading.proofs.ahead.memory_ahead.Goals as goal
 
 pub returns : goal.returns

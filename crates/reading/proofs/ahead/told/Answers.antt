@@ -1,5 +1,4 @@
 -- `reading::ahead::told` meets its contract.
-use borrow.Author.Rules.{rules}
 use Rattle.reading.proofs.ahead.told.Goals as goal
 
 pub returns-then-ok : goal.returns-then-ok

@@ -1,5 +1,4 @@
 -- `reading::classes::branch_v` meets its contract.
-use borrow.Author.Rules.{rules}
 use Rattle.reading.proofs.classes.branch_v.Goals as goal
 
 pub returns : goal.returns

@@ -1,5 +1,4 @@
 -- `reading::classes::given` meets its contract.
-use borrow.Author.Rules.{rules}
 use Rattle.reading.proofs.classes.given.Goals as goal
 
 pub returns-then-ok : goal.returns-then-ok

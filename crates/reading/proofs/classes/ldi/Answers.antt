@@ -1,10 +1,9 @@
 -- `reading::classes::ldi` meets its contract.
-use borrow.Author.Rules.{rules}
 use Rattle.reading.proofs.classes.ldi.Goals as goal
 
 pub returns : goal.returns
 returns c = rw (
-      c.has.ensures,
-      c.vd.ensures,
-      c.df-df.ensures,
-    ) at c.given.ensures
+  c.has.ensures,
+  c.vd.ensures,
+  c.df-df.ensures,
+) at c.given.ensures

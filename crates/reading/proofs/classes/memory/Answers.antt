@@ -1,12 +1,11 @@
 -- `reading::classes::memory` meets its contract.
 use Rattle.reading.proofs.Low.{low2}
-use borrow.Author.Rules.{rules}
 use Rattle.reading.proofs.classes.memory.Goals as goal
 
 pub returns : goal.returns
 returns c = rw (low2 _) (rw (
-      c.has.ensures,
-      c.gs.ensures,
-      c.vd.ensures,
-      c.width_at-df.ensures,
-    ) at c.given.ensures)
+  c.has.ensures,
+  c.gs.ensures,
+  c.vd.ensures,
+  c.width_at-df.ensures,
+) at c.given.ensures)

@@ -1,10 +1,9 @@
 -- `reading::classes::scaled` meets its contract.
-use borrow.Author.Rules.{rules}
 use Rattle.reading.proofs.classes.scaled.Goals as goal
 
 pub returns : goal.returns
 returns c = rw (
-      c.gt.ensures,
-      c.ga.ensures,
-      c.gs.ensures,
-    ) at c.given.ensures
+  c.gt.ensures,
+  c.ga.ensures,
+  c.gs.ensures,
+) at c.given.ensures

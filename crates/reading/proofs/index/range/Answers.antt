@@ -1,7 +1,6 @@
 -- `reading::index::range` meets its contract.
 use mathlib.Core.Path.{sym, ◌∙◌}
 use native.Mathlib.Omega.{arith}
-use borrow.Author.Rules.{rules}
 use Rattle.reading.proofs.Ranges.{in-range, below-range, past-range}
 use Rattle.reading.proofs.index.range.Goals as goal
 

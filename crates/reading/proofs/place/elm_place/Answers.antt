@@ -1,7 +1,6 @@
 -- `reading::place::elm_place` meets its contract.
 use borrow.Author.Tests.{eq-eqb, ne_eqb}
 use native.Mathlib.Omega.{arith}
-use borrow.Author.Rules.{rules}
 use Rattle.reading.proofs.place.elm_place.Goals as goal
 
 pub returns-then-w-eq62 : goal.returns-then-w-eq62

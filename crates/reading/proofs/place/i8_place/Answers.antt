@@ -2,7 +2,6 @@
 use Rattle.reading.proofs.Low.{low6}
 use borrow.Author.Tests.{lt-ltb, le-ltb}
 use native.Mathlib.Omega.{arith}
-use borrow.Author.Rules.{rules}
 use Rattle.reading.proofs.place.i8_place.Goals as goal
 
 pub returns-then-m-lt2 : goal.returns-then-m-lt2

@@ -2,7 +2,6 @@
 use Rattle.reading.proofs.Low.{low6}
 use borrow.Author.Tests.{eq-eqb, ne_eqb}
 use native.Mathlib.Omega.{arith}
-use borrow.Author.Rules.{rules}
 use Rattle.reading.proofs.place.other_place.Goals as goal
 
 pub returns-then-major-eq17 : goal.returns-then-major-eq17

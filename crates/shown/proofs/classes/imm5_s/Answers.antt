@@ -1,5 +1,4 @@
 -- `shown::classes::imm5_s` meets its contract.
-use borrow.Author.Rules.{rules}
 use Rattle.shown.proofs.classes.imm5_s.Goals as goal
 
 pub returns : goal.returns

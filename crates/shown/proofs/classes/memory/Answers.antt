@@ -1,5 +1,4 @@
 -- `shown::classes::memory` meets its contract.
-use borrow.Author.Rules.{rules}
 use Rattle.shown.proofs.classes.memory.Goals as goal
 
 pub returns : goal.returns

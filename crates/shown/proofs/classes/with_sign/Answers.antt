@@ -1,5 +1,4 @@
 -- `shown::classes::with_sign` meets its contract.
-use borrow.Author.Rules.{rules}
 use Rattle.shown.proofs.classes.with_sign.Goals as goal
 
 pub returns : goal.returns

@@ -1,7 +1,6 @@
 -- `shown::numbers::signed` meets its contract.
 use Prim.Native.Nat.{◌/◌, ◌%◌, ◌<◌}
 use Rattle.shown.specs.declared.Number.{Number}
-use borrow.Author.Rules.{rules}
 use borrow.Author.Tests.{lt-ltb, le-ltb}
 use mathlib.Core.Path.{◌≡◌, ap}
 use native.Mathlib.Nat.{mod-lt}

@@ -1,10 +1,9 @@
 -- `writing::layouts::bit` meets its contract.
-use borrow.Author.Rules.{rules}
 use Rattle.writing.proofs.layouts.bit.Goals as goal
 
 pub returns : goal.returns
 returns c = rw (
-      c.bit_code.ensures,
-      c.bit_size.ensures,
-      c.formed.ensures,
-    )
+  c.bit_code.ensures,
+  c.bit_size.ensures,
+  c.formed.ensures,
+)

@@ -1,5 +1,4 @@
 -- `writing::layouts::branch` meets its contract.
-use borrow.Author.Rules.{rules}
 use Rattle.writing.proofs.layouts.branch.Goals as goal
 
 pub returns : goal.returns

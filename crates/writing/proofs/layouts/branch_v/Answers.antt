@@ -1,5 +1,4 @@
 -- `writing::layouts::branch_v` meets its contract.
-use borrow.Author.Rules.{rules}
 use Rattle.writing.proofs.layouts.branch_v.Goals as goal
 
 pub returns : goal.returns

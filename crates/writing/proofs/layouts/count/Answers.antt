@@ -1,5 +1,4 @@
 -- `writing::layouts::count` meets its contract.
-use borrow.Author.Rules.{rules}
 use Rattle.writing.proofs.layouts.count.Goals as goal
 
 pub returns : goal.returns

@@ -1,5 +1,4 @@
 -- `writing::layouts::fill` meets its contract.
-use borrow.Author.Rules.{rules}
 use Rattle.writing.proofs.layouts.fill.Goals as goal
 
 pub returns : goal.returns

@@ -1,5 +1,4 @@
 -- `writing::layouts::fixed` meets its contract.
-use borrow.Author.Rules.{rules}
 use Rattle.writing.proofs.layouts.fixed.Goals as goal
 
 pub returns : goal.returns

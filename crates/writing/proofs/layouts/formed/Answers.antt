@@ -1,5 +1,4 @@
 -- `writing::layouts::formed` meets its contract.
-use borrow.Author.Rules.{rules}
 use Rattle.writing.proofs.layouts.formed.Goals as goal
 
 pub returns : goal.returns

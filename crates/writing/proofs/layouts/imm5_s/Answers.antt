@@ -1,5 +1,4 @@
 -- `writing::layouts::imm5_s` meets its contract.
-use borrow.Author.Rules.{rules}
 use Rattle.writing.proofs.layouts.imm5_s.Goals as goal
 
 pub returns : goal.returns

@@ -1,5 +1,4 @@
 -- `writing::layouts::imm8` meets its contract.
-use borrow.Author.Rules.{rules}
 use Rattle.writing.proofs.layouts.imm8.Goals as goal
 
 pub returns : goal.returns

@@ -1,5 +1,4 @@
 -- `writing::layouts::indexed` meets its contract.
-use borrow.Author.Rules.{rules}
 use Rattle.writing.proofs.layouts.indexed.Goals as goal
 
 pub returns : goal.returns

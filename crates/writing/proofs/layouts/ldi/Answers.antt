@@ -1,5 +1,4 @@
 -- `writing::layouts::ldi` meets its contract.
-use borrow.Author.Rules.{rules}
 use Rattle.writing.proofs.layouts.ldi.Goals as goal
 
 pub returns : goal.returns

@@ -1,5 +1,4 @@
 -- `writing::layouts::memory` meets its contract.
-use borrow.Author.Rules.{rules}
 use Rattle.writing.proofs.layouts.memory.Goals as goal
 
 pub returns : goal.returns

@@ -1,5 +1,4 @@
 -- `writing::layouts::scaled` meets its contract.
-use borrow.Author.Rules.{rules}
 use Rattle.writing.proofs.layouts.scaled.Goals as goal
 
 pub returns : goal.returns

@@ -1,5 +1,4 @@
 -- `writing::layouts::shf` meets its contract.
-use borrow.Author.Rules.{rules}
 use Rattle.writing.proofs.layouts.shf.Goals as goal
 
 pub returns : goal.returns

@@ -1,5 +1,4 @@
 -- `writing::layouts::three` meets its contract.
-use borrow.Author.Rules.{rules}
 use Rattle.writing.proofs.layouts.three.Goals as goal
 
 pub returns : goal.returns

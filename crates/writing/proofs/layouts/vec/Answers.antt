@@ -1,5 +1,4 @@
 -- `writing::layouts::vec` meets its contract.
-use borrow.Author.Rules.{rules}
 use Rattle.writing.proofs.layouts.vec.Goals as goal
 
 pub returns : goal.returns
