@@ -49,8 +49,8 @@ no-branch n = record { yes = λ e b. absurd (n b); no = λ e. clash refl e }
 
 -- of the one branch that an instruction is
 the-branch : {i : Instr} (b : IsBranch i) → AtLeastOne (offset_of b) → GoesForward i
-the-branch {i = instr.Branch o df wt offset} format h format = h
-the-branch {i = instr.BranchV o wt offset} whole h whole = h
+the-branch format h format = h
+the-branch whole h whole = h
 
 instr-reflects : (i : Instr) → Formed i → Reflects (instr_forward i) (GoesForward i)
 instr-reflects (instr.Three o df wd ws wt) f = no-branch (λ b. elim b [ ])

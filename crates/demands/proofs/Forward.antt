@@ -105,8 +105,8 @@ module _ (p : List ℕ) (e : Env) (small : length p ≤ 262144) (forward : Forwa
   in-slot : (m : Machine) (t : ℕ) (x : Instr) → IsBranch x → m.ctl.mark ≡ Taken t
       → outcome_of (plan_of e m x) ≡ Stopped BranchInSlot
   unfolding plan_of
-  in-slot m t (instr.Branch k df wt offset) format q = rw q
-  in-slot m t (instr.BranchV k wt offset) whole q = rw q
+  in-slot m t x format q = rw q
+  in-slot m t x whole q = rw q
 
   abbrev AheadOf : Control → ℕ → Type 0
   AheadOf c r = Ahead c.mark c.pc r

@@ -27,8 +27,8 @@ pub data IsBranch : Instr → Type 0 where
 
 -- its offset: a field of sixteen bits
 abbrev pub offset_of : {i : Instr} → IsBranch i → ℕ
-offset_of {i = instr.Branch k df wt offset} format = offset
-offset_of {i = instr.BranchV k wt offset} whole = offset
+offset_of (format {offset = offset}) = offset
+offset_of (whole {offset = offset}) = offset
 
 -- LSA and DLSA ignore the switch, so all others do not
 pub data IgnoresSwitch : Instr → Type 0 where
