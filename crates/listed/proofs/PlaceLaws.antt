@@ -1,5 +1,5 @@
 -- The index that a turned distance gives is the word's, or past the words. Assumes nothing.
-use Rattle.std.proofs.Common.{◌≡◌, ℕ, ◌+◌, ◌-◌, ◌*◌, ◌/◌, ◌%◌, ◌^◌, ◌<◌, ◌≤◌, Bool, true, false, eqb, ltb, List, length, sym, refl, ap, ◌∙◌, arith, ltb-false, ltb-true, eqb-true}
+use Rattle.std.proofs.Common.{◌≡◌, ℕ, ◌+◌, ◌-◌, ◌*◌, ◌/◌, ◌%◌, ◌^◌, ◌<◌, ◌≤◌, Bool, true, false, eqb, ltb, List, length, refl, ap, ◌∙◌, arith, ltb-false, ltb-true, eqb-true}
 use borrow.Author.Tests.{eqb-false}
 use Rattle.memory.specs.Bytes.{part, number}
 use Rattle.state.proofs.FetchLaws.{fetched-below, fetched-odd, fetched-past, fetched-word}

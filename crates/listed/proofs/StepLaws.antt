@@ -1,11 +1,10 @@
 -- A step by an entry of the list is the step that the program's word at the counter makes. Assumes nothing.
-use Rattle.std.proofs.Common.{◌≡◌, ℕ, ◌^◌, ◌<◌, List, get_or, sym, refl, ap, ◌∙◌}
+use Rattle.std.proofs.Common.{◌≡◌, ℕ, ◌^◌, ◌<◌, List, get_or, refl, ap, ◌∙◌}
 use Rattle.isa.specs.declared.Read.{Read}
 use Rattle.isa.specs.declared.Read.TheVariants as read
 use Rattle.acts.specs.Act.{plan_at, plan_read, FormedRead}
 use Rattle.acts.proofs.Back.{plan-back}
-use Rattle.entries.specs.Entry.{entry_of}
-use Rattle.entries.specs.Listed.{word_at, entry_at}
+use Rattle.entries.specs.Listed.{word_at}
 use Rattle.reading.specs.Reading.{read_of}
 use Rattle.words.proofs.Answers.{read-formed}
 use Rattle.plan.specs.declared.Plan.{Plan}

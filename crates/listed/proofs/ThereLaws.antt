@@ -1,5 +1,5 @@
 -- What the plan of an entry names is there, whatever number the entry is. Assumes nothing.
-use Rattle.std.proofs.Common.{◌≡◌, ℕ, ◌<◌, Bool, true, false, cond, eqb, ltb, List, [], ◌∷◌, length, refl, arith}
+use Rattle.std.proofs.Common.{ℕ, ◌<◌, Bool, true, false, cond, eqb, ltb, List, [], ◌∷◌, length, arith}
 use Rattle.isa.specs.declared.Memory.{Memory}
 use Rattle.isa.specs.declared.Memory.TheVariants.{Ld, St}
 use Rattle.acts.specs.Act.{At, said, plan_at, executed_at, kind_at, vreg, greg, address_in}

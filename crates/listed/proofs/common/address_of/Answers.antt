@@ -1,5 +1,4 @@
 -- `listed::common::address_of` meets its contract.
-use Rattle.std.proofs.Common.{rules}
 use Rattle.listed.proofs.common.address_of.Goals as goal
 
 pub returns : goal.returns

@@ -1,5 +1,5 @@
 -- `listed::common::branched` meets its contract.
-use Rattle.std.proofs.Common.{◌≡◌, ◌+◌, ◌%◌, ◌^◌, refl, ap, ◌∙◌, rules}
+use Rattle.std.proofs.Common.{◌≡◌, ◌+◌, ◌%◌, ◌^◌, refl, ap, ◌∙◌}
 use native.Mathlib.Nat.{mod-add-mod}
 use Rattle.entries.specs.Cut.{extended_of}
 use Rattle.listed.proofs.ActLaws.{clear-goes, slot-stops, slot-stops-taken}

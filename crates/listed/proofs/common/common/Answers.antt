@@ -1,5 +1,5 @@
 -- `listed::common::common` meets its contract.
-use Rattle.std.proofs.Common.{◌≡◌, ◌≤◌, sym, refl, arith, rules, ne_eqb}
+use Rattle.std.proofs.Common.{◌≡◌, ◌≤◌, sym, refl, arith, ne_eqb}
 use Rattle.acts.specs.Act.{last_in}
 use Rattle.entries.specs.Cut.{width_of}
 use Rattle.isa.specs.declared.Zero.TheVariants.{Bz, Bnz}

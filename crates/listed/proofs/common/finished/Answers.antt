@@ -1,5 +1,4 @@
 -- `listed::common::finished` meets its contract.
-use Rattle.std.proofs.Common.{rules}
 use Rattle.listed.proofs.common.finished.Goals as goal
 
 pub returns : goal.returns

@@ -1,5 +1,4 @@
 -- `listed::common::last` meets its contract.
-use Rattle.std.proofs.Common.{rules}
 use Rattle.listed.proofs.common.last.Goals as goal
 
 pub returns : goal.returns

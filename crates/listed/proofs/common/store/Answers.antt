@@ -1,5 +1,5 @@
 -- `listed::common::store` meets its contract.
-use Rattle.std.proofs.Common.{length, sym, refl, ap, ◌∙◌, arith, rules}
+use Rattle.std.proofs.Common.{length, sym, refl, ap, ◌∙◌, arith}
 use Rattle.isa.specs.Widths.{bytes}
 use Rattle.machine.proofs.StepLaws.{stopped-is}
 use Rattle.order.proofs.TurnLaws.{turned-held}

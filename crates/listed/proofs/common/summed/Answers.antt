@@ -1,5 +1,5 @@
 -- `listed::common::summed` meets its contract.
-use Rattle.std.proofs.Common.{refl, ap, rules}
+use Rattle.std.proofs.Common.{refl, ap}
 use Rattle.listed.proofs.common.summed.Goals as goal
 
 pub returns : goal.returns

@@ -1,5 +1,5 @@
 -- `listed::kept::kept_as` meets its contract.
-use Rattle.std.proofs.Common.{rules, le-ltb, lt-ltb}
+use Rattle.std.proofs.Common.{le-ltb, lt-ltb}
 use Rattle.listed.proofs.kept.kept_as.Goals as goal
 
 pub returns-then-c-lt109 : goal.returns-then-c-lt109

@@ -1,5 +1,5 @@
 -- `listed::moved::moved` meets its contract.
-use Rattle.std.proofs.Common.{sym, rules, ne_eqb}
+use Rattle.std.proofs.Common.{sym, ne_eqb}
 use Rattle.listed.proofs.moved.moved.Goals as goal
 
 pub returns-in-105 : goal.returns-in-105

@@ -1,5 +1,5 @@
 -- `listed::off::early_at` meets its contract.
-use Rattle.std.proofs.Common.{arith, rules, le-ltb, lt-ltb}
+use Rattle.std.proofs.Common.{arith, le-ltb, lt-ltb}
 use Rattle.listed.proofs.ActLaws.{branching, neither}
 use Rattle.listed.proofs.off.early_at.Goals as goal
 

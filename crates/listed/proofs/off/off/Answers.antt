@@ -1,5 +1,5 @@
 -- `listed::off::off` meets its contract.
-use Rattle.std.proofs.Common.{sym, ap, ◌∙◌, rules}
+use Rattle.std.proofs.Common.{sym, ap, ◌∙◌}
 use Rattle.isa.specs.declared.Scaled.TheVariants.{Lsa, Dlsa}
 use Rattle.listed.proofs.KeptLaws.{plan-not, plan-off, sum-off, third-code}
 use Rattle.listed.specs.Turn.{kept_stop}

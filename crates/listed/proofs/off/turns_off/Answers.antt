@@ -1,12 +1,12 @@
 -- `listed::off::turns_off`. The invariant is that of `turns`: it meets its contract.
-use Rattle.std.proofs.Common.{◌≡◌, ℕ, ◌-◌, ◌<◌, ◌≤◌, false, List, [], length, get_or, sym, refl, ap, ◌∙◌, arith, rules}
+use Rattle.std.proofs.Common.{◌≡◌, ℕ, ◌<◌, List, [], get_or, refl, ◌∙◌, arith, rules}
 use Rattle.acts.specs.Act.{plan_at}
 use Rattle.listed.proofs.StepLaws.{step-none, step_from, step_is, stays}
 use Rattle.listed.specs.Turn.{Reads}
-use Rattle.machine.proofs.RunLaws.{Sofar, sofar-none, sofar-more, sofar-stopped, sofar-spent}
+use Rattle.machine.proofs.RunLaws.{sofar-none, sofar-more, sofar-stopped, sofar-spent}
 use Rattle.machine.proofs.StepLaws.{stopped-is}
-use Rattle.machine.specs.Run.{Run, runs}
-use Rattle.machine.specs.Step.{StepIs, concluded, step_of, stopped_with}
+use Rattle.machine.specs.Run.{runs}
+use Rattle.machine.specs.Step.{concluded, step_of, stopped_with}
 use Rattle.state.specs.Machine.{env, machine}
 use Rattle.state.specs.declared.stops.Stop.TheVariants as stop
 use Rattle.listed.proofs.off.turns_off.Goals as goal

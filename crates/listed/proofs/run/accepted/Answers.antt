@@ -1,5 +1,5 @@
 -- `listed::run::accepted`: 51, or the words are read and the run is made. It meets its contract.
-use Rattle.std.proofs.Common.{◌/◌, length, refl, rules, le-ltb, lt-ltb}
+use Rattle.std.proofs.Common.{◌/◌, length, refl, le-ltb, lt-ltb}
 use Rattle.listed.proofs.FilledLaws.{filled}
 use Rattle.listed.proofs.run.accepted.Goals as goal
 

@@ -1,5 +1,5 @@
 -- `listed::run::run`: refused, or run by `accepted`. It meets its contract.
-use Rattle.std.proofs.Common.{sym, refl, ◌∙◌, rules}
+use Rattle.std.proofs.Common.{sym, refl, ◌∙◌}
 use Rattle.listed.proofs.FilledLaws.{stands}
 use Rattle.state.proofs.Said.{setup-is}
 use Rattle.state.proofs.SetupLaws as setup

@@ -1,5 +1,5 @@
 -- `listed::steps::made` meets its contract.
-use Rattle.std.proofs.Common.{◌≡◌, ℕ, sym, ◌∙◌, arith, rules}
+use Rattle.std.proofs.Common.{◌≡◌, sym, ◌∙◌, arith}
 use Rattle.entries.specs.Cut.{code_of}
 use Rattle.listed.proofs.ActLaws.{executed-vector, executed-value, shuffles}
 use Rattle.state.specs.Machine.{machine}

@@ -1,5 +1,5 @@
 -- `listed::steps::vector` meets its contract.
-use Rattle.std.proofs.Common.{refl, ap, ◌∙◌, arith, rules}
+use Rattle.std.proofs.Common.{refl, ap, ◌∙◌, arith}
 use Rattle.listed.proofs.ActLaws.{plan-on}
 use Rattle.state.specs.Machine.{machine}
 use Rattle.listed.proofs.steps.vector.Goals as goal

@@ -1,10 +1,10 @@
 -- `listed::turns::turns`. The invariant is the plain engine's, of every
 -- program that the list has read: it meets its contract.
-use Rattle.std.proofs.Common.{◌≡◌, ℕ, ◌-◌, ◌<◌, ◌≤◌, true, List, length, get_or, sym, refl, ap, ◌∙◌, arith, rules}
+use Rattle.std.proofs.Common.{ℕ, ◌<◌, List, get_or, refl, ◌∙◌, arith, rules}
 use Rattle.acts.specs.Act.{plan_at}
 use Rattle.listed.proofs.StepLaws.{step-none, step_from, stays}
 use Rattle.listed.specs.Turn.{Reads}
-use Rattle.machine.proofs.RunLaws.{Sofar, sofar-none, sofar-more, sofar-stopped, sofar-spent}
+use Rattle.machine.proofs.RunLaws.{sofar-none, sofar-more, sofar-stopped, sofar-spent}
 use Rattle.machine.proofs.StepLaws.{stopped-is}
 use Rattle.machine.specs.Run.{Run, runs}
 use Rattle.machine.specs.Step.{StepIs, concluded, step_of, stopped_with}
@@ -38,13 +38,12 @@ returns-then-words-at c p h =
     l.vectors l.generals l.work (rw none (stopped-is stop.NoWord m t refl)) refl
 
 pub common-requires : goal.common-requires
-common-requires c =
-    (
-      search rules,
-      search rules,
-      omega (arith, c.code_of-k.ensures.0, c.if-k-lt8.true),
-      c.loop-count.invariant.4,
-    )
+common-requires c = (
+  search rules,
+  search rules,
+  omega (arith, c.code_of-k.ensures.0, c.if-k-lt8.true),
+  c.loop-count.invariant.4,
+)
 
 pub quick-requires : goal.quick-requires
 quick-requires c =
@@ -56,13 +55,12 @@ quick-requires c =
     )
 
 pub slow-s-requires : goal.slow-s-requires
-slow-s-requires c =
-    (
-      search rules,
-      search rules,
-      omega (arith, c.code_of-k.ensures.0, c.if-k-lt56.false),
-      c.loop-count.invariant.4,
-    )
+slow-s-requires c = (
+  search rules,
+  search rules,
+  omega (arith, c.code_of-k.ensures.0, c.if-k-lt56.false),
+  c.loop-count.invariant.4,
+)
 
 pub loop-count-preserved : goal.loop-count-preserved
 loop-count-preserved c =
@@ -77,7 +75,7 @@ loop-count-preserved c =
     let x = get_or a.list.now at.result 0 in
     let done : StepIs (concluded a.board.work (plan_at e m x) m) j.s j.vectors j.generals j.work =
     elim j.branch [
-      then-k-lt56+then-k-lt8 w ↦ rw (w.vectors-is, w.generals-is, w.work-is, w.s-is) w.common.ensures
+      | then-k-lt56+then-k-lt8 w ↦ rw (w.vectors-is, w.generals-is, w.work-is, w.s-is) w.common.ensures
       | then-k-lt56+else-k-lt8 w ↦
           rw (w.vectors-is, w.generals-is, w.work-is, w.s-is) (w.quick.ensures e l.generals l.work)
       | else-k-lt56 w ↦
@@ -114,7 +112,7 @@ returns-in-Stopped c p h =
     let x = get_or a.list.now at.result 0 in
     let done : StepIs (concluded a.board.work (plan_at e m x) m) j.s j.vectors j.generals j.work =
     elim j.branch [
-      then-k-lt56+then-k-lt8 w ↦ rw (w.vectors-is, w.generals-is, w.work-is, w.s-is) w.common.ensures
+      | then-k-lt56+then-k-lt8 w ↦ rw (w.vectors-is, w.generals-is, w.work-is, w.s-is) w.common.ensures
       | then-k-lt56+else-k-lt8 w ↦
           rw (w.vectors-is, w.generals-is, w.work-is, w.s-is) (w.quick.ensures e l.generals l.work)
       | else-k-lt56 w ↦

@@ -1,14 +1,9 @@
 -- `listed::turns::turns`. The invariant is the plain engine's, of every
-use Rattle.std.proofs.Common.{◌≡◌, ℕ, ◌-◌, ◌<◌, ◌≤◌, true, List, length, get_or, sym, refl, ap, ◌∙◌, ⊎_elim, arith, rules}
-use Rattle.acts.specs.Act.{plan_at}
-use Rattle.listed.proofs.StepLaws.{step-none, step_from, stays}
+use Rattle.std.proofs.Common.{◌≡◌, ℕ, ◌-◌, ◌≤◌, true, List, length}
 use Rattle.listed.specs.Turn.{Reads}
-use Rattle.machine.proofs.RunLaws.{Sofar, sofar-none, sofar-more, sofar-stopped, sofar-spent}
-use Rattle.machine.proofs.StepLaws.{stopped-is}
-use Rattle.machine.specs.Run.{Run, runs}
-use Rattle.machine.specs.Step.{StepIs, concluded, step_of, stopped_with}
+use Rattle.machine.proofs.RunLaws.{Sofar}
+use Rattle.machine.specs.Run.{runs}
 use Rattle.state.specs.Machine.{env, machine}
-use Rattle.state.specs.declared.stops.Stop.TheVariants as stop
 use Rattle.listed.proofs.turns.turns.Given as goal
 
 -- program that the list has read: it meets its contract. Assumes nothing.
