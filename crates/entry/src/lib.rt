@@ -1,6 +1,8 @@
 // The C entry: one step, one run, why the next step would stop, or how large a budget is enough, on numbers and byte
 // slices. The slices go on to the machine as they are lent; only the control block is read from its bytes and, by a
 // step or a run, written back.
+#![tactic(auto)]
+
 pub mod block;
 pub mod numbers;
 
