@@ -1,4 +1,4 @@
--- `state::windows::first_outside`: of the addresses that are left the first outside is that of all sixteen. Assumes
+-- `state::windows::first_outside`: of the addresses that are left the first outside is that of all sixteen.
 use Rattle.std.proofs.Common.{sym, ◌∙◌, arith}
 use Rattle.state.proofs.WindowLaws.{outside-on, outside-here, outside-none}
 use Rattle.state.proofs.windows.first_outside.Goals as goal
