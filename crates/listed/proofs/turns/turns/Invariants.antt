@@ -1,4 +1,5 @@
 -- `listed::turns::turns`. The invariant is the plain engine's, of every
+-- program that the list has read: it meets its contract.
 use Rattle.std.proofs.Common.{◌≡◌, ℕ, ◌-◌, ◌≤◌, true, List, length}
 use Rattle.listed.specs.Turn.{Reads}
 use Rattle.machine.proofs.RunLaws.{Sofar}
@@ -6,7 +7,6 @@ use Rattle.machine.specs.Run.{runs}
 use Rattle.state.specs.Machine.{env, machine}
 use Rattle.listed.proofs.turns.turns.Given as goal
 
--- program that the list has read: it meets its contract. Assumes nothing.
 abbrev pub invariant-loop-count : goal.invariant-loop-count
 invariant-loop-count l = (l.count ≤ l.budget) × (length l.vectors ≡ 512) × (length l.generals ≡ 256) × (length l.work ≡ length l.initial.work)
     × (l.control.on ≡ true)
