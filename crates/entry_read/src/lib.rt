@@ -1,5 +1,7 @@
 // The C entry that keeps a list of read instructions: one run, on numbers, byte slices and the list. The slices go on
 // to the engine as they are lent; only the control block is read from its bytes and written back.
+#![tactic(auto)]
+
 ghost use Rattle.std.specs.Prelude.{◌≡◌};
 ghost use Rattle.state.specs.Machine.{env, machine};
 ghost use Rattle.entry.specs.Block.{decoded, ordered};
