@@ -9,10 +9,6 @@
  * BUDGET of a kernel that branches back, which may go on for as long as its data say: how many instructions it is
  *        allowed, 1000 where it is not given. A kernel that only branches forward gets what msa_budget says
  *
- * Pings are run by msa_run_read. The first ping after the start is run by msa_run too, on bytes of its own: a line says
- * that both left the same answer and the same bytes. Where they did not, nothing is announced at all, and the program
- * ends with status 1.
- *
  * A sounding is passed on only where it is this ping's own: the result cell is cleared
  * before each run, the run must end with MSA_NO_WORD, which is the end of the kernel,
  * and the cell must hold this ping's number in every halfword behind the result.
@@ -95,59 +91,29 @@ static void explain(uint32_t reason, struct msa_why why) {
     if (why.kind != MSA_KIND_NOTHING) printf("    fact 0x%" PRIX64 ": %s\n", why.fact, msa_kind_text(why.kind));
 }
 
-/* what a run is lent for writing, beside the list */
-struct lent {
-    uint8_t vectors[MSA_VECTORS_BYTES], generals[MSA_GENERALS_BYTES], work[SAMPLES + CELL], control[MSA_CONTROL_BYTES];
-};
-
-static void set_up(struct lent *l, uint16_t number, const uint8_t samples[SAMPLES]) {
-    memset(l, 0, sizeof *l);
-    memcpy(l->work, samples, SAMPLES);
-    put(l->generals + 8 * 4, 8, WORK + BLANKING);
-    put(l->generals + 8 * 5, 8, TABLE);
-    put(l->generals + 8 * 6, 8, 8);
-    put(l->generals + 8 * 7, 8, RESULT);
-    put(l->generals + 8 * 9, 8, number);
-    put(l->control + MSA_CONTROL_PC, 8, 0);
-    l->control[MSA_CONTROL_SWITCH] = MSA_SWITCH_ON;
-    l->control[MSA_CONTROL_ORDER] = MSA_ORDER_LITTLE; /* the result cell is read so */
-}
-
-static struct msa_ended run(struct lent *l, uint32_t budget) {
-    static uint64_t list[MOST_WORDS];
-    return msa_run_read(program, program_bytes, 0, table, sizeof table, TABLE, l->vectors, sizeof l->vectors,
-                        l->generals, sizeof l->generals, l->work, sizeof l->work, WORK, l->control, sizeof l->control,
-                        list, MOST_WORDS, budget);
-}
-
-/* Whether msa_run on the same bytes answers and leaves what the run of this ping did; a line says so. */
-static int self_test(uint16_t number, struct lent before, const struct lent *after, struct msa_ended end,
-                     uint32_t budget) {
-    struct msa_ended plain = msa_run(program, program_bytes, 0, table, sizeof table, TABLE, before.vectors,
-                                     sizeof before.vectors, before.generals, sizeof before.generals, before.work,
-                                     sizeof before.work, WORK, before.control, sizeof before.control, budget);
-    int same = plain.reason == end.reason && plain.count == end.count && plain.missing == end.missing
-               && memcmp(&before, after, sizeof before) == 0;
-    printf("self-test: on ping %u both engines %s\n", number, same ? "agree" : "differ; nothing is announced");
-    return same;
-}
-
-/* Runs the kernel on a ping, the first after the start by both engines. Answers 1 and the result where the cell holds
- * this ping's own; else 0. */
+/* Runs the kernel on a ping. Answers 1 and the result where the cell holds this ping's own; else 0. */
 static int sound(uint16_t number, const uint8_t samples[SAMPLES], uint32_t budget, unsigned *result) {
-    static int tested;
-    struct lent l;
-    set_up(&l, number, samples);
-    const struct lent before = l;
-    const uint8_t *cell = l.work + SAMPLES;
-    struct msa_ended end = run(&l, budget);
-    if (!tested && !self_test(number, before, &l, end, budget)) exit(1);
-    tested = 1;
+    uint8_t vectors[MSA_VECTORS_BYTES] = {0}, generals[MSA_GENERALS_BYTES] = {0}, control[MSA_CONTROL_BYTES] = {0};
+    static uint8_t work[SAMPLES + CELL];
+    uint8_t *cell = work + SAMPLES;
+
+    memcpy(work, samples, SAMPLES);
+    memset(cell, 0, CELL);
+    put(generals + 8 * 4, 8, WORK + BLANKING);
+    put(generals + 8 * 5, 8, TABLE);
+    put(generals + 8 * 6, 8, 8);
+    put(generals + 8 * 7, 8, RESULT);
+    put(generals + 8 * 9, 8, number);
+    put(control + MSA_CONTROL_PC, 8, 0);
+    control[MSA_CONTROL_SWITCH] = MSA_SWITCH_ON;
+    control[MSA_CONTROL_ORDER] = MSA_ORDER_LITTLE; /* the result cell is read so */
+
+    struct msa_ended end = msa_run(program, program_bytes, 0, table, sizeof table, TABLE, vectors, sizeof vectors,
+                                   generals, sizeof generals, work, sizeof work, WORK, control, sizeof control, budget);
     if (end.reason != MSA_NO_WORD) {
         printf("ping %u: no sounding (%" PRIu32 ", after %" PRIu32 " instructions)\n", number, end.reason, end.count);
-        explain(end.reason, msa_why(program, program_bytes, 0, table, sizeof table, TABLE, l.vectors, sizeof l.vectors,
-                                    l.generals, sizeof l.generals, l.work, sizeof l.work, WORK, l.control,
-                                    sizeof l.control));
+        explain(end.reason, msa_why(program, program_bytes, 0, table, sizeof table, TABLE, vectors, sizeof vectors,
+                                    generals, sizeof generals, work, sizeof work, WORK, control, sizeof control));
         return 0;
     }
     for (int i = 2; i < CELL; i += 2)
