@@ -15,7 +15,7 @@ ghost use Rattle.std.specs.Prelude.{◌≡◌, length};
 
 use crate::tally::Tally;
 use std::io;
-use std::io::{BufReader, Read};
+use std::io::Read;
 use streams::{count, read_full};
 
 // Whether `msa_why` says of this memory what the head has.
@@ -341,7 +341,7 @@ fn entries() -> [u64; 65537]
 }
 
 fn main(rt: HostRuntime) -> io::Result<()> {
-    let mut input = BufReader::new(rt.alloc(), rt.reader())?;
+    let mut input = rt.reader();
     let mut program = window();
     let mut table = window();
     let mut work = window();
