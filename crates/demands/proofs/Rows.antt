@@ -51,12 +51,17 @@ pub each_map : {f g : Row → Type 0} {rows : List Row} → ((r : Row) → f r �
 each_map h all = all
 each_map h (x & a) = h _ x & each_map h a
 
--- the row that gives n applies, w and x stand behind it, and no earlier one applies
-pub says : (n w x : ℕ) → (n ≡ 0 → (w ≡ 0) × (x ≡ 0)) → (rows : List Row)
+-- by recursion on the rows, n, w and x given
+says_on : (n w x : ℕ) → (n ≡ 0 → (w ≡ 0) × (x ≡ 0)) → (rows : List Row)
     → Each (λ r. r.number ≡ n → r.applies → r.behind w x) rows → First rows n → Says rows n w x
-says n w x z rows all none = let both = z refl in rw (both.0, both.1) nothing
-says n w x z rows (b & each) (given p) = here p (b refl p)
-says n w x z rows (b & each) (passed q f) = later q (says n w x z _ each f)
+says_on n w x z rows all none = let both = z refl in rw (both.0, both.1) nothing
+says_on n w x z rows (b & each) (given p) = here p (b refl p)
+says_on n w x z rows (b & each) (passed q f) = later q (says_on n w x z _ each f)
+
+-- the row that gives n applies, w and x stand behind it, and no earlier one applies
+pub says : (rows : List Row) (n w x : ℕ) → (n ≡ 0 → (w ≡ 0) × (x ≡ 0))
+    → Each (λ r. r.number ≡ n → r.applies → r.behind w x) rows → First rows n → Says rows n w x
+says rows n w x z each f = says_on n w x z rows each f
 
 pub said-first : {rows : List Row} {n w x : ℕ} → Says rows n w x → First rows n
 said-first nothing = none
@@ -67,11 +72,17 @@ said-first (later q s) = passed q (said-first s)
 abbrev pub One : Row → Type 0
 One r = (w v x y : ℕ) → r.behind w x → r.behind v y → (w ≡ v) × (x ≡ y)
 
-pub one-said : (n k w v x y : ℕ) (rows : List Row) → Each (λ r. r.number ≡ n → One r) rows → Says rows n w x
+-- by recursion on the rows, the numbers given
+one_said_on : (n k w v x y : ℕ) (rows : List Row) → Each (λ r. r.number ≡ n → One r) rows → Says rows n w x
     → Says rows k v y
     → (w ≡ v) × (x ≡ y)
-one-said n k w v x y rows all nothing nothing = (refl, refl)
-one-said n k w v x y rows (one & each) (here p b) (here q c) = one refl w v x y b c
-one-said n k w v x y rows (one & each) (here p b) (later q t) = absurd (q p)
-one-said n k w v x y rows (one & each) (later q s) (here p c) = absurd (q p)
-one-said n k w v x y rows (one & each) (later q s) (later r t) = one-said n k w v x y _ each s t
+one_said_on n k w v x y rows all nothing nothing = (refl, refl)
+one_said_on n k w v x y rows (one & each) (here p b) (here q c) = one refl w v x y b c
+one_said_on n k w v x y rows (one & each) (here p b) (later q t) = absurd (q p)
+one_said_on n k w v x y rows (one & each) (later q s) (here p c) = absurd (q p)
+one_said_on n k w v x y rows (one & each) (later q s) (later r t) = one_said_on n k w v x y _ each s t
+
+pub one-said : (rows : List Row) (n k w v x y : ℕ) → Each (λ r. r.number ≡ n → One r) rows → Says rows n w x
+    → Says rows k v y
+    → (w ≡ v) × (x ≡ y)
+one-said rows n k w v x y each s t = one_said_on n k w v x y rows each s t

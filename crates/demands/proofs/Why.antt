@@ -208,7 +208,7 @@ module _ (p : List ℕ) (e : Env) (m : Machine) where
       (why_of p e m).fact
   whole_says =
       let q = refusal p e m in
-      says _ _ _ (none-zero q) (limits p e m ++ stops p e m) (each_row q refl)
+      says (limits p e m ++ stops p e m) _ _ _ (none-zero q) (each_row q refl)
       (rw (same_answer q) (step-first p e m))
 
 -- with 17 the fact is the address that the step's answer has
@@ -285,7 +285,7 @@ module _ (p : List ℕ) (e : Env) (m : Machine) where
 pub one-reason : OneReason
 one-reason p e m n k w v x y s t =
     let is : n ≡ answer_number (whole_step p e m).answer = one-first _ n _ (said-first s) (step-first p e m) in
-    let both = one-said n k w v x y _ (each-given p e m (refusal p e m) refl n is) s t in
+    let both = one-said _ n k w v x y (each-given p e m (refusal p e m) refl n is) s t in
     (one-first _ n k (said-first s) (said-first t), both.0, both.1)
 
 -- ---- where no reason is named
