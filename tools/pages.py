@@ -120,7 +120,7 @@ for page in ["docs/PROMISES.md", "docs/READING.md"]:
     for name in set(re.findall(r"`([a-z]+(?:-[a-z]+)+)`", open(page).read())):
         if not re.search(r"(?m)^\s*(pub )?%s :" % re.escape(name), proofs):
             missing.append("%s: no theorem %s" % (page, name))
-for page in ["README.md"] + glob.glob("docs/*.md"):
+for page in ["README.md"] + [p for p in glob.glob("docs/*.md") if p != "docs/PORT.md"]:
     for path in set(re.findall(r"`((?:crates/|docs/|host/|include/|tools/)?[\w/]+\.(?:antt|rt|md|py|sh|h|c|s|lst|words|hex|txt))`", open(page).read())):
         found = os.path.exists(path) or os.path.exists("crates/" + path) or glob.glob("**/" + path, recursive=True)
         if not found:

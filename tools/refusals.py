@@ -1,11 +1,10 @@
 #!/usr/bin/env python3
-"""How each must-fail edit was refused: reads the logs that `rt` leaves below target/must-fail and prints, for every edit, what the first error (or, in a function that Rattle
-proves by itself, the first note) says, and then how many there are of each kind.
+"""How each must-fail edit was refused: reads what `rt must-fail` or `rt ci` printed and says, for every edit, what its
+first error (or, in a function that Rattle proves by itself, the first note) begins with, and then how many there are of
+each kind.
 
-    tools/refusals.py [FOLDER]      FOLDER: a target/must-fail; without it, that of this repository"""
+    tools/refusals.py FILE      FILE: what one of these commands printed"""
 import collections
-import glob
-import os
 import re
 import sys
 
@@ -20,27 +19,18 @@ KINDS = [
 ]
 
 
-def first(log):
-    lines = log.split("\n")
-    for mark in [r": error: ", r"^note: \S+: it is not proved that"]:
-        for n, line in enumerate(lines):
-            if re.search(mark, line) and "was not admitted" not in line:
-                return line + " " + " ".join(lines[n + 1 : n + 3])
-    return lines[0]
-
-
 def kind(text):
     found = [(m.start(), name) for name, pattern in KINDS for m in [re.search(pattern, text)] if m]
     return min(found)[1] if found else "another"
 
 
-root = os.path.join(os.path.dirname(os.path.abspath(__file__)), "..")
-folder = sys.argv[1] if len(sys.argv) > 1 else os.path.join(root, "target", "must-fail")
+SAID = re.compile(r"^rt: must-fail (\w+/\w+)\.edit: refused, as it must be(?: \(.*?\))?: (.*)$")
 count = collections.Counter()
-for path in sorted(glob.glob(os.path.join(folder, "*", "*", ".log"))):
-    text = first(open(path).read())
-    label = "/".join(path.split(os.sep)[-3:-1])
-    count[kind(text)] += 1
-    print("%s: %s: %s" % (label, kind(text), re.sub(r"^\S*/", "", text)[:160]))
+with open(sys.argv[1]) as said:
+    for line in said:
+        found = SAID.match(line.rstrip("\n"))
+        if found:
+            count[kind(found.group(2))] += 1
+            print("%s: %s: %s" % (found.group(1), kind(found.group(2)), found.group(2)))
 for name, n in count.most_common():
-    print("%4d %s" % (n, name))
+    print("%4d  %s" % (n, name))
