@@ -94,8 +94,7 @@ sources = [(path.split("/")[1], os.path.basename(path)[:-3], open(path).read()) 
 codes = [(crate, ungrouped(re.sub(r"(?m)^\s*(?://|ghost ).*", "", text))) for crate, _, text in sources]
 libraries = {crate for crate, name, _ in sources if name == "lib"}
 for crate, name, text in sources:
-    # an archive (NAME_c) exports what its library promises
-    if crate not in libraries or crate.endswith("_c"):
+    if crate not in libraries:
         continue
     path = crate if name == "lib" else crate + "::" + name
     apart = re.sub(r"(?m) \{$", "\n{", text)
