@@ -7,8 +7,8 @@ use lib.Dec.{lit<, lit≤}
 use lib.IntN.{ℤ, pos, ◌+ℤ◌, ◌*ℤ◌}
 use Rattle.isa.specs.declared.Instr.{Instr}
 use Rattle.isa.specs.declared.Instr.TheVariants as instr
-use Rattle.isa.specs.declared.Read.{Read}
-use Rattle.isa.specs.declared.Read.TheVariants as read
+use Rattle.std.specs.Prelude.{Ok, Err, Result}
+use Rattle.isa.specs.declared.Unread.{Unread}
 use Rattle.isa.specs.declared.Width.{Width}
 use Rattle.isa.specs.declared.Width.TheVariants.{B, H, W, D}
 use Rattle.isa.specs.Widths.{bits, bytes, elements}
@@ -167,6 +167,6 @@ module _ (e : Env) (m : Machine) where
       let i = kept-times 16 (lit< tt) (lit≤ tt) _ offset f.1 4 (lit≤ tt) p.imm in
       zero-v-plan e m _ (zero_at k.0) p.code ∙ rw (p.third, i, sum_back)
 
-pub plan-back : (r : Read) → FormedRead r → (e : Env) (m : Machine) → plan_at e m (entry_of r) ≡ plan_read e m r
-plan-back (read.Not u) f e m = unread-plan e m _ u (parts (unread_code u) B 0 0 0 0 0 none none none).code
-plan-back (read.Instr i) f e m = instr-back e m i f
+pub plan-back : (r : Result Instr Unread) → FormedRead r → (e : Env) (m : Machine) → plan_at e m (entry_of r) ≡ plan_read e m r
+plan-back (Err u) f e m = unread-plan e m _ u (parts (unread_code u) B 0 0 0 0 0 none none none).code
+plan-back (Ok i) f e m = instr-back e m i f

@@ -1,6 +1,6 @@
 -- What an entry does: its plan, by its code and its parts. Every number has one, so nothing is asked of a list's
 -- contents; that the entry of an instruction does what the instruction does is a law (proofs/Back.antt).
-use Rattle.std.specs.Prelude.{Bool, cond, List, [], ◌∷◌, ℕ, ◌+◌, ◌/◌, ◌%◌, ◌^◌, eqb, ltb}
+use Rattle.std.specs.Prelude.{Bool, cond, List, [], ◌∷◌, ℕ, ◌+◌, ◌/◌, ◌%◌, ◌^◌, eqb, ltb, Ok, Err, Result}
 use Rattle.isa.specs.declared.BitOp.TheVariants as bit
 use Rattle.isa.specs.declared.Copied.TheVariants.{CopyS, CopyU}
 use Rattle.isa.specs.declared.Count.TheVariants.{Pcnt, Nloc, Nlzc}
@@ -9,8 +9,7 @@ use Rattle.isa.specs.declared.Greg.{Greg}
 use Rattle.isa.specs.declared.Indexed.TheVariants.{Sld, Splat}
 use Rattle.isa.specs.declared.Logic.TheVariants.{And, Or, Nor, Xor, Bmnz, Bmz, Bsel}
 use Rattle.isa.specs.declared.Memory.TheVariants.{Ld, St}
-use Rattle.isa.specs.declared.Read.{Read}
-use Rattle.isa.specs.declared.Read.TheVariants as read
+use Rattle.isa.specs.declared.Instr.{Instr}
 use Rattle.isa.specs.declared.Saturate.TheVariants.{SatS, SatU}
 use Rattle.isa.specs.declared.Scaled.TheVariants.{Lsa, Dlsa}
 use Rattle.isa.specs.declared.Unread.{Unread}
@@ -188,11 +187,11 @@ plan_at e m x =
     (plan.Stop (stop.Unread (unread_at (code_of x))))
 
 -- the plan of what a word reads as
-abbrev pub plan_read : Env → Machine → Read → Plan
-plan_read e m (read.Not u) = plan.Stop (stop.Unread u)
-plan_read e m (read.Instr i) = plan_of e m i
+abbrev pub plan_read : Env → Machine → Result Instr Unread → Plan
+plan_read e m (Err u) = plan.Stop (stop.Unread u)
+plan_read e m (Ok i) = plan_of e m i
 
 -- what a word that is read gives: an instruction that is formed, or none
-abbrev pub FormedRead : Read → Type 0
-FormedRead (read.Not u) = Unit {0}
-FormedRead (read.Instr i) = Formed i
+abbrev pub FormedRead : Result Instr Unread → Type 0
+FormedRead (Err u) = Unit {0}
+FormedRead (Ok i) = Formed i

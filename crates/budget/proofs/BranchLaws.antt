@@ -6,7 +6,9 @@ use Prim.Native.Nat.{ℕ, ◌+◌, ◌*◌, ◌/◌, ◌%◌, ◌^◌, ◌<◌}
 use native.Mathlib.Omega.{arith}
 use borrow.Author.Tests.{eqb-true, eqb-false}
 use lib.Dec.{eqb, lit<}
-use Rattle.isa.specs.declared.Read.{Read}
+use Rattle.std.specs.Prelude.{Result}
+use Rattle.isa.specs.declared.Unread.{Unread}
+use Rattle.isa.specs.declared.Instr.{Instr}
 use Rattle.isa.specs.Widths.{width_at}
 use Rattle.element.proofs.Diff.{by_order}
 use Rattle.fields.specs.Fields.{bits, both}
@@ -43,7 +45,7 @@ branch-v-at k q = eqb-true (k / 2) 221 (rw q at (placed_at k))
 
 module _ (w : ℕ) where
   -- what goes only forward, whatever the offset bits are
-  abbrev Quiet : Read → Type 0
+  abbrev Quiet : Result Instr Unread → Type 0
   Quiet r = forward r ≡ true
 
   abbrev indexed? : Index → Formats → Bool

@@ -1,16 +1,13 @@
 -- How large a budget is enough (request 10/12): for a program whose branches all go forward, by the words that are left
 -- from the counter on.
-use Rattle.std.specs.Prelude.{ℕ, zero, suc, ◌+◌, ◌-◌, ◌*◌, ◌/◌, Bool, true, cond, ◌&&◌, List, pos, length}
+use Rattle.std.specs.Prelude.{ℕ, zero, suc, ◌+◌, ◌-◌, ◌*◌, ◌/◌, Bool, true, cond, ◌&&◌, List, pos, length, Ok, Err, Some, None, Result, Option}
 use Rattle.std.specs.Int.Signed.{lt_z}
 use Rattle.isa.specs.declared.Instr.{Instr}
 use Rattle.isa.specs.declared.Instr.TheVariants as instr
-use Rattle.isa.specs.declared.Read.{Read}
-use Rattle.isa.specs.declared.Read.TheVariants as read
+use Rattle.isa.specs.declared.Unread.{Unread}
 use Rattle.element.specs.Value.{signed}
 use Rattle.memory.specs.Bytes.{part, number}
 use Rattle.reading.specs.Reading.{read_of}
-use Rattle.state.specs.declared.fetch.Fetched.{Fetched}
-use Rattle.state.specs.declared.fetch.Fetched.TheVariants.{Word, NoWord}
 use Rattle.state.specs.Fetch.{fetched}
 use Rattle.state.specs.Setup.{program_bad}
 
@@ -45,9 +42,9 @@ instr_forward (instr.Scaled k rd rs rt sa) = true
 instr_forward (instr.Fixed k df wd ws wt) = true
 
 -- a word that reads as no instruction branches nowhere
-abbrev pub forward : Read → Bool
-forward (read.Not u) = true
-forward (read.Instr i) = instr_forward i
+abbrev pub forward : Result Instr Unread → Bool
+forward (Err u) = true
+forward (Ok i) = instr_forward i
 
 -- the first n words of a program
 unfoldable pub forward_to : List ℕ → ℕ → Bool
@@ -63,9 +60,9 @@ abbrev pub from_word : List ℕ → ℕ → ℕ
 from_word p i = cond (forward_to p (words p)) (words p - i + 1) 0
 
 -- by what stands at the counter, word i
-abbrev pub enough : Fetched → List ℕ → ℕ → ℕ
-enough (Word w) p i = from_word p i
-enough NoWord p i = 1
+abbrev pub enough : Option ℕ → List ℕ → ℕ → ℕ
+enough (Some w) p i = from_word p i
+enough None p i = 1
 
 -- and none, which is 0, of a program that set-up refuses with 2
 unfoldable pub budget_of : List ℕ → ℕ → ℕ → ℕ

@@ -8,7 +8,6 @@ ghost use Rattle.std.specs.Prelude.{◌≡◌, ◌+◌, ◌/◌, ◌≤◌, leng
 ghost use Rattle.reading.specs.Reading.{read_of};
 ghost use Rattle.budget.specs.Budget.{ahead, forward, forward_to, words, from_word, budget_of};
 
-use state::fetch::Fetched;
 use state::{fetch, setup};
 
 // Whether an offset, a signed number, is at least 1.
@@ -68,7 +67,7 @@ pub fn forward_budget(program: &[u8], base: u64, counter: u64) -> u32
     if setup::program_bad(base, program.len()) {
         return 0;
     }
-    let Fetched::Word(_) = fetch::word_at(program, base, counter) else {
+    let Some(_) = fetch::word_at(program, base, counter) else {
         return 1;
     };
     from_word(program, counter - base)

@@ -2,7 +2,7 @@
 // 1,024 that differ from it there: 65,536 words are read, one for each value of bits 25..16 and 5..0.
 #![tactic(auto)]
 
-use isa::{Read, Unread};
+use isa::{Instr, Unread};
 use reading::read_word;
 use std::io;
 
@@ -45,10 +45,10 @@ fn refused(c: Counts, u: Unread) -> Counts {
     }
 }
 
-fn counted(c: Counts, r: Read) -> Counts {
+fn counted(c: Counts, r: Result<Instr, Unread>) -> Counts {
     match r {
-        Read::Not(u) => refused(c, u),
-        Read::Instr(_) => Counts {
+        Err(u) => refused(c, u),
+        Ok(_) => Counts {
             read: more(c.read),
             left_out: c.left_out,
             unassigned: c.unassigned,

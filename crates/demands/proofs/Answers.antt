@@ -7,8 +7,7 @@ use native.Mathlib.Omega.{arith}
 use Rattle.isa.specs.declared.Unread.TheVariants.{Unassigned, LeftOut, Other}
 use Rattle.state.specs.declared.setup.Refusal.{Refusal}
 use Rattle.state.specs.declared.setup.Refusal.TheVariants as refusal
-use Rattle.state.specs.declared.setup.Setup.{Setup}
-use Rattle.state.specs.declared.setup.Setup.TheVariants.{Accepted, Refused}
+use Rattle.std.specs.Prelude.{Ok, Err, Result, ⊤}
 use Rattle.state.specs.declared.stops.Stop.{Stop}
 use Rattle.state.specs.declared.stops.Stop.TheVariants as stop
 use Rattle.state.specs.Machine.{Env, Machine, machine}
@@ -18,7 +17,7 @@ use Rattle.machine.specs.declared.run.Reason.{Reason}
 use Rattle.machine.specs.declared.run.Reason.TheVariants as reason
 use Rattle.machine.specs.Numbers.{outcome_number, answer_number, reason_number}
 use Rattle.machine.specs.Run.{Run, runs, admitted, whole_run}
-use Rattle.machine.specs.Step.{Result, step_of, whole, whole_step}
+use Rattle.machine.specs.Step.{Ending, step_of, whole, whole_step}
 use Rattle.machine.proofs.RunLaws.{same-machine}
 use Rattle.demands.specs.Demand1.{Why, spent, stopped}
 use Rattle.demands.specs.Limits.{limits}
@@ -29,10 +28,10 @@ use Rattle.demands.proofs.Kept.{steps-accepted}
 use Rattle.demands.proofs.Limits.{or_number, limits-first}
 use Rattle.demands.proofs.Reasons.{first-reason}
 
-whole-number : (q : Setup) (s : Result) (m : Machine)
+whole-number : (q : Result ⊤ Refusal) (s : Ending) (m : Machine)
     → or_number q (outcome_number s.outcome) ≡ answer_number (whole q s m).answer
-whole-number Accepted s m = refl
-whole-number (Refused r) s m = refl
+whole-number (Ok tt) s m = refl
+whole-number (Err r) s m = refl
 
 -- the definition's step
 pub step-first : (p : List ℕ) (e : Env) (m : Machine)
@@ -79,15 +78,15 @@ reason-some r (fewer l u) h = omega arith
 
 module _ (p : List ℕ) (e : Env) (budget : ℕ) where
   -- why it ended, as a row
-  why-first : (count : ℕ) (m : Machine) (r : Reason) → setup.refusal p e m ≡ Accepted → Why p e budget count m r
+  why-first : (count : ℕ) (m : Machine) (r : Reason) → setup.refusal p e m ≡ Ok tt → Why p e budget count m r
       → First (row 20 (count ≡ budget) ∷ stops p e m) (reason_number r)
   why-first count m r a (spent h) = given h
   why-first count m r a (stopped s l h) = passed (λ (z : count ≡ budget). omega arith) (rw h at (first-reason p e m a))
 
-  run-number : (q : Setup) (r : Run) (m : Machine)
+  run-number : (q : Result ⊤ Refusal) (r : Run) (m : Machine)
       → or_number q (reason_number r.reason) ≡ reason_number (admitted q r m).reason
-  run-number Accepted r m = refl
-  run-number (Refused x) r m = refl
+  run-number (Ok tt) r m = refl
+  run-number (Err x) r m = refl
 
   -- the definition's run
   pub run-first : (m : Machine)
@@ -101,7 +100,7 @@ module _ (p : List ℕ) (e : Env) (budget : ℕ) where
         some = reason-some (whole_run p e budget m).reason (reasoned (whole_run p e budget m).reason);
       }
     where
-      accepted-first : setup.refusal p e m ≡ Accepted
+      accepted-first : setup.refusal p e m ≡ Ok tt
           → First (row 20 ((whole_run p e budget m).count ≡ budget) ∷ stops p e (whole_run p e budget m).after)
           (reason_number (runs p e budget m).reason)
       accepted-first a =

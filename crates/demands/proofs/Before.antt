@@ -7,8 +7,8 @@ use lib.Pow.{pow_pos}
 use Rattle.isa.specs.declared.Instr.{Instr}
 use Rattle.isa.specs.declared.Memory.{Memory}
 use Rattle.isa.specs.declared.Memory.TheVariants.{Ld, St}
-use Rattle.isa.specs.declared.Read.{Read}
-use Rattle.isa.specs.declared.Read.TheVariants as read
+use Rattle.std.specs.Prelude.{Ok, Err, Some, None, Result, Option}
+use Rattle.isa.specs.declared.Unread.{Unread}
 use Rattle.isa.specs.declared.Vreg.{Vreg}
 use Rattle.isa.specs.declared.Width.{Width}
 use Rattle.isa.specs.Widths.{bytes}
@@ -22,8 +22,6 @@ use Rattle.order.proofs.OrderLaws.{turned-little}
 use Rattle.plan.specs.declared.Plan.TheVariants as plan
 use Rattle.plan.specs.Plan.{plan_of, executed_by, accessed, loaded, stored, kind_of, early, unless}
 use Rattle.reading.specs.Reading.{read_of}
-use Rattle.state.specs.declared.fetch.Fetched.{Fetched}
-use Rattle.state.specs.declared.fetch.Fetched.TheVariants as fetch
 use Rattle.state.specs.declared.windows.Spot.{Spot}
 use Rattle.state.specs.declared.windows.Spot.TheVariants.{Table, Work, Outside}
 use Rattle.state.specs.Fetch.{fetched}
@@ -69,13 +67,13 @@ module _ (e : Env) (m : Machine) (same : e.board.order ≡ Little) where
       λ j. unless (early (kind_of i) m.ctl.mark m.ctl.on)
       (executed_by (λ o df wd a. accessed-is o df wd a j) m i)
 
-  decided-is : (r : Read) → decided r e m ≡ decided_before r e m
-  decided-is (read.Not u) = refl
-  decided-is (read.Instr i) = ap (λ q. concluded e.board.work q m) (planned-is i)
+  decided-is : (r : Result Instr Unread) → decided r e m ≡ decided_before r e m
+  decided-is (Err u) = refl
+  decided-is (Ok i) = ap (λ q. concluded e.board.work q m) (planned-is i)
 
-  attempted-is : (f : Fetched) → attempted f e m ≡ attempted_before f e m
-  attempted-is (fetch.Word w) = decided-is (read_of w)
-  attempted-is fetch.NoWord = refl
+  attempted-is : (f : Option ℕ) → attempted f e m ≡ attempted_before f e m
+  attempted-is (Some w) = decided-is (read_of w)
+  attempted-is None = refl
 
 pub little_step : LittleStep
 unfolding step_of

@@ -8,13 +8,12 @@ use native.Mathlib.Omega.{arith}
 use lib.ListN.{length}
 use Rattle.isa.specs.declared.Instr.{Instr}
 use Rattle.isa.specs.declared.Instr.TheVariants as instr
-use Rattle.isa.specs.declared.Read.{Read}
-use Rattle.isa.specs.declared.Read.TheVariants as read
+use Rattle.std.specs.Prelude.{Ok, Err, None, Result}
+use Rattle.isa.specs.declared.Unread.{Unread}
 use Rattle.budget.specs.Budget.{ahead, instr_forward, forward, forward_to, enough, budget_of}
 use Rattle.budget.proofs.BudgetLaws.{ahead-is, word_at, forward-each, forward-all}
 use Rattle.memory.specs.Bytes.{part, number}
 use Rattle.reading.specs.Reading.{read_of}
-use Rattle.state.specs.declared.fetch.Fetched.TheVariants.{Word, NoWord}
 use Rattle.state.specs.Fetch.{fetched}
 use Rattle.state.specs.Machine.{Env, Machine}
 use Rattle.state.specs.Setup.{program_bad}
@@ -84,7 +83,7 @@ module _ (p : List ℕ) where
   spelt i = little-number p (4 * i) 4
 
   -- of a word that reads as x
-  word-reflects : (i : ℕ) (x : Instr) → read_of (word_at p i) ≡ read.Instr x → Reflects (instr_forward x) (GoesForward x)
+  word-reflects : (i : ℕ) (x : Instr) → read_of (word_at p i) ≡ Ok x → Reflects (instr_forward x) (GoesForward x)
   word-reflects i x q = instr-reflects x (formed (word_at p i) x q)
 
   each-forward : Forward p → (i : ℕ) → i < words p → forward (read_of (word_at p i)) ≡ true
@@ -94,9 +93,9 @@ module _ (p : List ℕ) where
       ahead? x true r g = refl
       ahead? x false r g = absurd (r.no refl g)
 
-      go : (r : Read) → read_of (word_at p i) ≡ r → forward r ≡ true
-      go (read.Not u) q = refl
-      go (read.Instr x) q = ahead? x (instr_forward x) (word-reflects i x q) (f i x l (ap read_of (spelt i) ∙ q))
+      go : (r : Result Instr Unread) → read_of (word_at p i) ≡ r → forward r ≡ true
+      go (Err u) q = refl
+      go (Ok x) q = ahead? x (instr_forward x) (word-reflects i x q) (f i x l (ap read_of (spelt i) ∙ q))
 
   forward-reflects : Reflects (forward_to p (words p)) (Forward p)
   forward-reflects =
@@ -123,7 +122,7 @@ budget-is p base counter =
 
     go : (a : Bool) → Reflects a (Program base (length p)) → (b : Bool) → Reflects b (Some (AtWord p base counter))
         → Budget p base counter
-        (cond a 0 (enough (cond b (Word (number (part p (counter - base) 4))) NoWord) p ((counter - base) / 4)))
+        (cond a 0 (enough (cond b (Some (number (part p (counter - base) 4))) None) p ((counter - base) / 4)))
     go true x b y = refused (x.yes refl)
     go false x true y = by-branches (x.no refl) (y.yes refl) (forward_to p (words p)) (forward-reflects p)
     go false x false y = nowhere (x.no refl) (y.no refl)

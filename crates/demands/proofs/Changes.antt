@@ -20,8 +20,8 @@ use Rattle.memory.specs.Value.{value}
 use Rattle.ops.specs.Meaning.{memory_at}
 use Rattle.plan.specs.declared.Plan.{Plan}
 use Rattle.plan.specs.declared.Plan.TheVariants as plan
-use Rattle.plan.specs.declared.planned.Early.{Early}
-use Rattle.plan.specs.declared.planned.Early.TheVariants.{Go, Stops}
+use Rattle.std.specs.Prelude.{Ok, Err, Result, ⊤}
+use Rattle.state.specs.declared.stops.Stop.{Stop}
 use Rattle.plan.specs.Plan.{plan_of, executed, accessed, loaded, stored, general_at, kind_of, early, unless}
 use Rattle.plan.specs.There.{There}
 use Rattle.plan.proofs.PlanLaws.{control-cases}
@@ -31,7 +31,6 @@ use Rattle.state.specs.declared.windows.Spot.TheVariants.{Table, Work, Outside}
 use Rattle.state.specs.Csr.{masked, arms, arming}
 use Rattle.state.specs.Machine.{Env, Machine}
 use Rattle.state.proofs.SetupLaws.{Sized, accepted}
-use Rattle.machine.specs.declared.step.Outcome.TheVariants.{Finished}
 use Rattle.machine.specs.Effect.{applied, with_general}
 use Rattle.machine.specs.Step.{outcome_of}
 use Rattle.demands.specs.AtCounter.{InWork}
@@ -120,9 +119,9 @@ module _ (e : Env) (m : Machine) (sized : Sized e m) where
   unfolding plan_of
   planned-goes i = go (early (kind_of i) m.ctl.mark m.ctl.on)
     where
-      go : (s : Early) → GoesTo m (operands_of i).destination (unless s (executed e m i))
-      go Go = executed-goes i
-      go (Stops s) = tt
+      go : (s : Result ⊤ Stop) → GoesTo m (operands_of i).destination (unless s (executed e m i))
+      go (Ok tt) = executed-goes i
+      go (Err s) = tt
 
   -- ---- what is done of them
 
@@ -161,7 +160,7 @@ module _ (e : Env) (m : Machine) (sized : Sized e m) where
       ap (λ y. (y + k) % 2 ^ 64) is ∙ mod-eq_of_lt (omega (arith, sized.work)) in
       rw here (omega arith, omega arith)
 
-  applied-only : (d : Destination) (q : Plan) → outcome_of q ≡ Finished → GoesTo m d q → There base (length m.work) q
+  applied-only : (d : Destination) (q : Plan) → outcome_of q ≡ Ok tt → GoesTo m d q → There base (length m.work) q
       → ChangesOnly d e m (applied base q m)
   applied-only d (plan.Stop s) o g h = let z : ◌≡◌ {A = ℕ} 0 1 = cc in absurd (omega arith)
   applied-only d plan.Nothing o g h =

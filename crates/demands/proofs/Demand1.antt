@@ -7,8 +7,8 @@ use native.Mathlib.Omega.{arith}
 use Rattle.state.specs.Machine.{Env, Machine}
 use Rattle.machine.specs.declared.run.Reason.{Reason}
 use Rattle.machine.specs.declared.run.Reason.TheVariants as reason
-use Rattle.machine.specs.declared.step.Outcome.{Outcome}
-use Rattle.machine.specs.declared.step.Outcome.TheVariants.{Finished, Stopped}
+use Rattle.std.specs.Prelude.{Ok, Err, Result, ⊤}
+use Rattle.state.specs.declared.stops.Stop.{Stop}
 use Rattle.machine.specs.Run.{Run, runs, adding, ended}
 use Rattle.machine.specs.Step.{step_of}
 use Rattle.machine.proofs.RunLaws as laws
@@ -27,11 +27,11 @@ unfolding runs
 runs-end p e zero m = record { within = omega arith; steps = none; why = spent refl }
 runs-end p e (suc budget) m = go (step_of p e m).outcome refl (runs-end p e budget (step_of p e m).after)
   where
-    go : (o : Outcome) → (step_of p e m).outcome ≡ o → Ends p e budget (step_of p e m).after (runs p e budget (step_of p e m).after)
+    go : (o : Result ⊤ Stop) → (step_of p e m).outcome ≡ o → Ends p e budget (step_of p e m).after (runs p e budget (step_of p e m).after)
         → Ends p e (suc budget) m (runs p e (suc budget) m)
-    go Finished h rest =
+    go (Ok tt) h rest =
         rw (laws.runs-finished p e m budget h) (record { within = omega (arith, rest.within); steps = counted (more h rest.steps); why = later rest.why })
-    go (Stopped s) h rest = rw (laws.runs-stopped p e m budget s h) (record { within = omega arith; steps = none; why = stopped s (omega arith) h })
+    go (Err s) h rest = rw (laws.runs-stopped p e m budget s h) (record { within = omega arith; steps = none; why = stopped s (omega arith) h })
 
 pub accepted-run : AcceptedRun
 accepted-run p e budget m h = rw h (runs-end p e budget m)

@@ -12,8 +12,8 @@ use Rattle.isa.specs.declared.Instr.{Instr}
 use Rattle.isa.specs.declared.Instr.TheVariants as instr
 use Rattle.isa.specs.declared.Memory.{Memory}
 use Rattle.isa.specs.declared.Memory.TheVariants.{Ld, St}
-use Rattle.isa.specs.declared.Read.{Read}
-use Rattle.isa.specs.declared.Read.TheVariants as read
+use Rattle.std.specs.Prelude.{Ok, Err, Some, None, Result, Option, ⊤}
+use Rattle.state.specs.declared.stops.Stop.{Stop}
 use Rattle.isa.specs.declared.Vreg.{Vreg}
 use Rattle.isa.specs.declared.Width.{Width}
 use Rattle.isa.specs.Widths.{bytes}
@@ -27,29 +27,21 @@ use Rattle.order.specs.declared.Order.{Order}
 use Rattle.order.specs.Order.{register_in}
 use Rattle.plan.specs.declared.Plan.{Plan}
 use Rattle.plan.specs.declared.Plan.TheVariants as plan
-use Rattle.plan.specs.declared.planned.Early.{Early}
-use Rattle.plan.specs.declared.planned.Early.TheVariants.{Go, Stops}
 use Rattle.plan.specs.Numbers.{address}
 use Rattle.plan.specs.Plan.{plan_of, executed, early, unless, kind_of, accessed, loaded, stored, writes, general_at}
 use Rattle.plan.proofs.PlanLaws.{control-cases}
 use Rattle.reading.specs.Reading.{read_of}
 use Rattle.state.specs.declared.control.Control.{Control}
-use Rattle.state.specs.declared.fetch.Fetched.{Fetched}
-use Rattle.state.specs.declared.fetch.Fetched.TheVariants as fetch
 use Rattle.state.specs.declared.stops.Stop.TheVariants.{NoWord, Unread, NoWindow}
-use Rattle.state.specs.declared.windows.Found.{Found}
-use Rattle.state.specs.declared.windows.Found.TheVariants.{At, Nowhere}
 use Rattle.state.specs.Csr.{masked, arms, arming}
 use Rattle.state.specs.Fetch.{fetched}
 use Rattle.state.specs.Machine.{Env, Machine, machine}
 use Rattle.state.specs.Windows.{placed, or_else}
 use Rattle.state.proofs.WindowLaws.{placed_at, placed-fits}
-use Rattle.machine.specs.declared.step.Outcome.{Outcome}
-use Rattle.machine.specs.declared.step.Outcome.TheVariants.{Finished, Stopped}
 use Rattle.machine.specs.Effect.{work_after}
 use Rattle.machine.specs.Numbers.{reason_number}
 use Rattle.machine.specs.Run.{Run, runs, onward}
-use Rattle.machine.specs.Step.{Result, result, concluded, decided, attempted, step_of}
+use Rattle.machine.specs.Step.{Ending, result, concluded, decided, attempted, step_of}
 use Rattle.demands.specs.Demand3.{Holds, Untouched, EndsAlike, placed_env, Wider}
 
 -- windows
@@ -186,27 +178,27 @@ module _ (order : Order) (table : List ℕ) (pb tb b₁ b₂ : ℕ) (v g : List 
   after (plan.Branch k) i = idle
 
   -- an access that the first window holds is placed in the second
-  at-wider : (a : ℕ) → b₁ ≤ a → a + 16 ≤ b₁ + length w₁ → placed b₂ (length w₂) a ≡ At (a - b₂)
+  at-wider : (a : ℕ) → b₁ ≤ a → a + 16 ≤ b₁ + length w₁ → placed b₂ (length w₂) a ≡ Some (a - b₂)
   at-wider a from to =
       placed_at b₂ (length w₂) a (wider-from b₁ w₁ b₂ w₂ holds a from to) (wider-to b₁ w₁ b₂ w₂ holds a from to)
 
   -- the address a, with what the table and the first work window say of it; y is missing from the first machine where
   -- they say nothing, z from the second
-  load-alike : (df : Width) (a : ℕ) (wd : Vreg) (y z : ℕ) (t f : Found) → placed b₁ (length w₁) a ≡ f
+  load-alike : (df : Width) (a : ℕ) (wd : Vreg) (y z : ℕ) (t f : Option ℕ) → placed b₁ (length w₁) a ≡ f
       → Plans (loaded (or_else y t f) order df wd table w₁)
       (loaded (or_else z t (placed b₂ (length w₂) a)) order df wd table w₂)
-  load-alike df a wd y z (At i) f p = same refl tt
-  load-alike df a wd y z Nowhere Nowhere p = outside y refl
-  load-alike df a wd y z Nowhere (At j) p =
+  load-alike df a wd y z (Some i) f p = same refl tt
+  load-alike df a wd y z None None p = outside y refl
+  load-alike df a wd y z None (Some j) p =
       let h = placed-fits b₁ (length w₁) a j p in
       rw (at-wider a h.0 h.1, h.2)
       (same (ap (λ s. writes wd (register_in order (bytes df) s)) (wider-part b₁ w₁ b₂ w₂ holds a h.0 h.1)) tt)
 
-  store-alike : (df : Width) (a x y z : ℕ) (t f : Found) → placed b₁ (length w₁) a ≡ f
+  store-alike : (df : Width) (a x y z : ℕ) (t f : Option ℕ) → placed b₁ (length w₁) a ≡ f
       → Plans (stored (or_else y t f) order df a x) (stored (or_else z t (placed b₂ (length w₂) a)) order df a x)
-  store-alike df a x y z (At i) f p = same refl tt
-  store-alike df a x y z Nowhere Nowhere p = outside y refl
-  store-alike df a x y z Nowhere (At j) p =
+  store-alike df a x y z (Some i) f p = same refl tt
+  store-alike df a x y z None None p = outside y refl
+  store-alike df a x y z None (Some j) p =
       let h = placed-fits b₁ (length w₁) a j p in
       rw (at-wider a h.0 h.1)
       (same refl (h.0, h.1))
@@ -245,9 +237,9 @@ module _ (order : Order) (table : List ℕ) (pb tb b₁ b₂ : ℕ) (v g : List 
   executed-alike (instr.Scaled o rd rs rt sa) = same refl tt
   executed-alike (instr.Fixed o df wd ws wt) = same refl tt
 
-  unless-alike : (s : Early) (q₁ q₂ : Plan) → Plans q₁ q₂ → Plans (unless s q₁) (unless s q₂)
-  unless-alike Go q₁ q₂ h = h
-  unless-alike (Stops s) q₁ q₂ h = same refl tt
+  unless-alike : (s : Result ⊤ Stop) (q₁ q₂ : Plan) → Plans q₁ q₂ → Plans (unless s q₁) (unless s q₂)
+  unless-alike (Ok tt) q₁ q₂ h = h
+  unless-alike (Err s) q₁ q₂ h = same refl tt
 
   planned-alike : (i : Instr) → Plans (plan_of e₁ m₁ i) (plan_of e₂ m₂ i)
   unfolding plan_of
@@ -258,9 +250,9 @@ module _ (order : Order) (table : List ℕ) (pb tb b₁ b₂ : ℕ) (v g : List 
 
   -- the first stops with 17, or both have the same outcome, registers and controls, the shared bytes stay shared, and
   -- no other byte changes
-  data Together (s₁ s₂ : Result) : Type 0 where
-    apart : (x : ℕ) → s₁.outcome ≡ Stopped (NoWindow x) → Together s₁ s₂
-    along : (o : Outcome) (v' g' : List ℕ) (c' : Control) (w₁' w₂' : List ℕ)
+  data Together (s₁ s₂ : Ending) : Type 0 where
+    apart : (x : ℕ) → s₁.outcome ≡ Err (NoWindow x) → Together s₁ s₂
+    along : (o : Result ⊤ Stop) (v' g' : List ℕ) (c' : Control) (w₁' w₂' : List ℕ)
         → s₁ ≡ result o (machine v' g' w₁' c') → s₂ ≡ result o (machine v' g' w₂' c')
         → Beside w₁' w₂' → Together s₁ s₂
 
@@ -269,13 +261,13 @@ module _ (order : Order) (table : List ℕ) (pb tb b₁ b₂ : ℕ) (v g : List 
   concluded-together q₁ q₂ (same h i) =
       subst (λ q. Together (concluded b₁ q₁ m₁) (concluded b₂ q m₂)) (sym h) (along _ _ _ _ _ _ refl refl (after q₁ i))
 
-  decided-together : (r : Read) → Together (decided r e₁ m₁) (decided r e₂ m₂)
-  decided-together (read.Not u) = along (Stopped (Unread u)) v g c w₁ w₂ refl refl idle
-  decided-together (read.Instr i) = concluded-together (plan_of e₁ m₁ i) (plan_of e₂ m₂ i) (planned-alike i)
+  decided-together : (r : Result Instr Unread) → Together (decided r e₁ m₁) (decided r e₂ m₂)
+  decided-together (Err u) = along (Err (Unread u)) v g c w₁ w₂ refl refl idle
+  decided-together (Ok i) = concluded-together (plan_of e₁ m₁ i) (plan_of e₂ m₂ i) (planned-alike i)
 
-  attempted-together : (f : Fetched) → Together (attempted f e₁ m₁) (attempted f e₂ m₂)
-  attempted-together (fetch.Word w) = decided-together (read_of w)
-  attempted-together fetch.NoWord = along (Stopped NoWord) v g c w₁ w₂ refl refl idle
+  attempted-together : (f : Option ℕ) → Together (attempted f e₁ m₁) (attempted f e₂ m₂)
+  attempted-together (Some w) = decided-together (read_of w)
+  attempted-together None = along (Err NoWord) v g c w₁ w₂ refl refl idle
 
   step-together : (p : List ℕ) → Together (step_of p e₁ m₁) (step_of p e₂ m₂)
   unfolding step_of
@@ -300,21 +292,21 @@ module _ (order : Order) (p table : List ℕ) (pb tb b₁ b₂ : ℕ) where
 
   module _ (k₁ k₂ : ℕ) (rest : RunsAlike k₁ k₂) (v g : List ℕ) (c : Control)
       (w₁ w₂ : List ℕ) (holds : Holds b₁ w₁ b₂ w₂) where
-    abbrev go_on : Result → ℕ → Env → Run
+    abbrev go_on : Ending → ℕ → Env → Run
     go_on s k e = onward s.outcome s.after (runs p e k s.after)
 
-    abbrev first : Outcome → List ℕ → List ℕ → List ℕ → Control → Run
+    abbrev first : Result ⊤ Stop → List ℕ → List ℕ → List ℕ → Control → Run
     first o v' g' w₁' c' = onward o (machine v' g' w₁' c') (run₁ k₁ v' g' w₁' c')
 
-    abbrev second : Outcome → List ℕ → List ℕ → List ℕ → Control → Run
+    abbrev second : Result ⊤ Stop → List ℕ → List ℕ → List ℕ → Control → Run
     second o v' g' w₂' c' = onward o (machine v' g' w₂' c') (run₂ k₂ v' g' w₂' c')
 
-    along-alike : (o : Outcome) (v' g' : List ℕ) (c' : Control) (w₁' w₂' : List ℕ)
+    along-alike : (o : Result ⊤ Stop) (v' g' : List ℕ) (c' : Control) (w₁' w₂' : List ℕ)
         → Beside order table pb tb b₁ b₂ v g c w₁ w₂ holds w₁' w₂'
         → (reason_number (first o v' g' w₁' c').reason ≡ 17 → ⊥)
         → (reason_number (first o v' g' w₁' c').reason ≡ 20 → ⊥)
         → EndsAlike b₁ (length w₁) b₂ w₂ (first o v' g' w₁' c') (second o v' g' w₂' c')
-    along-alike Finished v' g' c' w₁' w₂' beside f17 f20 =
+    along-alike (Ok tt) v' g' c' w₁' w₂' beside f17 f20 =
         let i = rest v' g' c' w₁' w₂' beside.held f17 f20 in
         let l₁ = beside.first in
         let l₂ = beside.second in
@@ -329,7 +321,7 @@ module _ (order : Order) (p table : List ℕ) (pb tb b₁ b₂ : ℕ) where
           shared = i.shared;
           added = λ j h out. i.added j (omega arith) (λ x. out (x.0, omega arith)) ∙ beside.rest j h out;
         }
-    along-alike (Stopped s) v' g' c' w₁' w₂' beside f17 f20 =
+    along-alike (Err s) v' g' c' w₁' w₂' beside f17 f20 =
         record {
           reason = refl;
           count = refl;
@@ -342,7 +334,7 @@ module _ (order : Order) (p table : List ℕ) (pb tb b₁ b₂ : ℕ) where
           added = beside.rest;
         }
 
-    onward-alike : (s₁ s₂ : Result) → Together order table pb tb b₁ b₂ v g c w₁ w₂ holds s₁ s₂
+    onward-alike : (s₁ s₂ : Ending) → Together order table pb tb b₁ b₂ v g c w₁ w₂ holds s₁ s₂
         → (reason_number (go_on s₁ k₁ (placed_env order pb tb b₁ table)).reason ≡ 17 → ⊥)
         → (reason_number (go_on s₁ k₁ (placed_env order pb tb b₁ table)).reason ≡ 20 → ⊥)
         → EndsAlike b₁ (length w₁) b₂ w₂ (go_on s₁ k₁ (placed_env order pb tb b₁ table))

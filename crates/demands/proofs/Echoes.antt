@@ -7,7 +7,7 @@ use native.Mathlib.Omega.{arith}
 use borrow.Author.Tests.{ltb-true}
 use lib.Dec.{ltb, lit<}
 use Rattle.isa.specs.declared.Instr.{Instr}
-use Rattle.isa.specs.declared.Read.TheVariants as read
+use Rattle.std.specs.Prelude.{Ok}
 use Rattle.element.specs.Value.{signed, wrap}
 use Rattle.each.specs.Lanes.{each_lane}
 use Rattle.fields.specs.Fields.{both}
@@ -25,8 +25,6 @@ use Rattle.reading.specs.Reading.{place_of, read_of}
 use Rattle.state.specs.Fetch.{fetched}
 use Rattle.state.specs.Setup.{refusal, first}
 use Rattle.vectors.specs.Register.{element, build}
-use Rattle.machine.specs.declared.step.Answer.TheVariants.{Ran}
-use Rattle.machine.specs.declared.step.Outcome.TheVariants.{Finished}
 use Rattle.machine.specs.Step.{step_of, whole_step}
 use Rattle.demands.specs.Destination.{in_vector, operands_of}
 use Rattle.demands.specs.Echoes.{loud, loud_env, loud_program, quiet, quiet_env, quiet_program}
@@ -55,9 +53,9 @@ module _ (w : ℕ) (instruction : Instr) where
   quiet_after = (whole_step (quiet_program w) quiet_env quiet).after.vec
 
   -- before the step they are the same two machines whatever the word is
-  worked : (j : ℕ) → read_of w ≡ read.Instr instruction
-      → w ≡ little (loud_program w) 0 4 → (whole_step (loud_program w) loud_env loud).answer ≡ Ran Finished
-      → w ≡ little (quiet_program w) 4 4 → (whole_step (quiet_program w) quiet_env quiet).answer ≡ Ran Finished
+  worked : (j : ℕ) → read_of w ≡ Ok instruction
+      → w ≡ little (loud_program w) 0 4 → (whole_step (loud_program w) loud_env loud).answer ≡ Ok (Ok tt)
+      → w ≡ little (quiet_program w) 4 4 → (whole_step (quiet_program w) quiet_env quiet).answer ≡ Ok (Ok tt)
       → AgreeIn j loud_after quiet_after ($w 5) → Worked w instruction j
   unfolding bits_from
   worked j reads first loudly second quietly wd =

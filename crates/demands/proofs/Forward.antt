@@ -10,7 +10,8 @@ use lib.Dec.{lit≤}
 use lib.ListN.{length}
 use Rattle.isa.specs.declared.Instr.{Instr}
 use Rattle.isa.specs.declared.Instr.TheVariants as instr
-use Rattle.isa.specs.declared.Read.TheVariants as read
+use Rattle.std.specs.Prelude.{Ok, Err, Result, ⊤}
+use Rattle.state.specs.declared.setup.Refusal.{Refusal}
 use Rattle.element.specs.Value.{signed, wrap}
 use Rattle.element.proofs.Diff.{by_order}
 use Rattle.plan.specs.declared.Plan.{Plan}
@@ -21,15 +22,12 @@ use Rattle.reading.specs.Reading.{read_of}
 use Rattle.state.specs.declared.control.Control.{Control}
 use Rattle.state.specs.declared.control.Mark.{Mark}
 use Rattle.state.specs.declared.control.Mark.TheVariants.{Clear, NotTaken, Taken}
-use Rattle.state.specs.declared.setup.Setup.{Setup}
-use Rattle.state.specs.declared.setup.Setup.TheVariants.{Accepted, Refused}
 use Rattle.state.specs.declared.stops.Stop.TheVariants.{BranchInSlot}
 use Rattle.state.specs.Machine.{Env, Machine}
 use Rattle.state.specs.Setup.{refusal}
 use Rattle.state.proofs.SetupLaws.{program-small, program-accepted}
 use Rattle.machine.specs.declared.run.Reason.{Reason}
 use Rattle.machine.specs.declared.run.Reason.TheVariants as reason
-use Rattle.machine.specs.declared.step.Outcome.TheVariants.{Finished, Stopped}
 use Rattle.machine.specs.Effect.{pc_after, control_after}
 use Rattle.machine.specs.Run.{whole_run}
 use Rattle.machine.specs.Step.{outcome_of, step_of}
@@ -103,7 +101,7 @@ module _ (p : List ℕ) (e : Env) (small : length p ≤ 262144) (forward : Forwa
 
   -- a branch whose slot mark is set stops
   in-slot : (m : Machine) (t : ℕ) (x : Instr) → IsBranch x → m.ctl.mark ≡ Taken t
-      → outcome_of (plan_of e m x) ≡ Stopped BranchInSlot
+      → outcome_of (plan_of e m x) ≡ Err BranchInSlot
   unfolding plan_of
   in-slot m t x format q = rw q
   in-slot m t x whole q = rw q
@@ -113,7 +111,7 @@ module _ (p : List ℕ) (e : Env) (small : length p ≤ 262144) (forward : Forwa
 
   -- the instruction x at word i
   module _ (m : Machine) (i r : ℕ) (at : StandsAt p e m i) (x : Instr)
-      (reads : read_of (little p (4 * i) 4) ≡ read.Instr x) (h : AheadOf m.ctl r) where
+      (reads : read_of (little p (4 * i) 4) ≡ Ok x) (h : AheadOf m.ctl r) where
     abbrev pc : ℕ
     pc = m.ctl.pc
 
@@ -131,11 +129,11 @@ module _ (p : List ℕ) (e : Env) (small : length p ≤ 262144) (forward : Forwa
         go Clear f g = rw is (branched pc i r at g (offset_of b) ahead taken?)
         go NotTaken f g = rw is (branched pc i r at g (offset_of b) ahead taken?)
         go (Taken t) f g =
-            let clash : Finished ≡ Stopped BranchInSlot = sym (ap outcome_of q) ∙ in-slot m t x b f in
+            let clash : (Ok tt) ≡ Err BranchInSlot = sym (ap outcome_of q) ∙ in-slot m t x b f in
             let z : ◌≡◌ {A = ℕ} 0 1 = cc in
             absurd (omega arith)
 
-    plan-on : (q : Plan) → plan_of e m x ≡ q → Within pc x q → outcome_of q ≡ Finished
+    plan-on : (q : Plan) → plan_of e m x ≡ q → Within pc x q → outcome_of q ≡ Ok tt
         → AheadOf (control_after q m.ctl) (r - 1)
     plan-on (plan.Stop s) f w done = let z : ◌≡◌ {A = ℕ} 0 1 = cc in absurd (omega arith)
     plan-on plan.Nothing f w done = on
@@ -146,7 +144,7 @@ module _ (p : List ℕ) (e : Env) (small : length p ≤ 262144) (forward : Forwa
     plan-on (plan.Branch k) f w done = branch-on k w f
 
   -- a finished step leaves one instruction less
-  step-on : (m : Machine) (r : ℕ) → AheadOf m.ctl r → (step_of p e m).outcome ≡ Finished
+  step-on : (m : Machine) (r : ℕ) → AheadOf m.ctl r → (step_of p e m).outcome ≡ Ok tt
       → (1 ≤ r) × AheadOf (step_of p e m).after.ctl (r - 1)
   step-on m r h done =
       let s = finished-step p e m done in
@@ -177,7 +175,7 @@ forward-steps p e m m' i k forward s steps =
 
 -- where fewer than b steps can be finished, a run finishes fewer, and does not spend a budget of b
 pub short-run : (p : List ℕ) (e : Env) (m : Machine) (b budget : ℕ) → 0 < b
-    → (refusal p e m ≡ Accepted → (k : ℕ) (m' : Machine) → Steps p e k m m' → k < b)
+    → (refusal p e m ≡ Ok tt → (k : ℕ) (m' : Machine) → Steps p e k m m' → k < b)
     → ((whole_run p e budget m).count < b) × (b ≤ budget → Not ((whole_run p e budget m).reason ≡ reason.Spent))
 short-run p e m b budget some few = go (refusal p e m) refl
   where
@@ -186,13 +184,13 @@ short-run p e m b budget some few = go (refusal p e m) refl
     unspent (spent h) l q = omega arith
     unspent (stopped s h k) l q = let z : ◌≡◌ {A = ℕ} 0 1 = cc in omega arith
 
-    go : (s : Setup) → refusal p e m ≡ s
+    go : (s : Result ⊤ Refusal) → refusal p e m ≡ s
         → ((whole_run p e budget m).count < b) × (b ≤ budget → Not ((whole_run p e budget m).reason ≡ reason.Spent))
-    go Accepted a =
+    go (Ok tt) a =
         let ends = accepted-run p e budget m a in
         let count = few a _ _ ends.steps in
         (count, λ l. unspent ends.why (omega arith))
-    go (Refused r) a = rw (refused-run p e budget m r a) (some, λ l q. let z : ◌≡◌ {A = ℕ} 0 1 = cc in omega arith)
+    go (Err r) a = rw (refused-run p e budget m r a) (some, λ l q. let z : ◌≡◌ {A = ℕ} 0 1 = cc in omega arith)
 
 pub forward-run : ForwardRun
 forward-run p e m i budget forward s =

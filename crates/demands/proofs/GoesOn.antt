@@ -7,8 +7,8 @@ use native.Mathlib.Nat.{zero-add}
 use native.Mathlib.Omega.{arith}
 use Rattle.state.specs.Machine.{Env, Machine}
 use Rattle.machine.specs.declared.run.Reason.TheVariants as reason
-use Rattle.machine.specs.declared.step.Outcome.{Outcome}
-use Rattle.machine.specs.declared.step.Outcome.TheVariants.{Finished, Stopped}
+use Rattle.std.specs.Prelude.{Ok, Err, Result, ⊤}
+use Rattle.state.specs.declared.stops.Stop.{Stop}
 use Rattle.machine.specs.Run.{Run, runs, adding}
 use Rattle.machine.specs.Step.{step_of}
 use Rattle.machine.proofs.RunLaws.{runs-finished, runs-stopped}
@@ -32,14 +32,14 @@ module _ (p : List ℕ) (e : Env) (k : ℕ) where
   runs_on zero m = none-on m
   runs_on (suc n) m = go (step_of p e m).outcome refl (runs_on n (step_of p e m).after)
     where
-      go : (o : Outcome) → (step_of p e m).outcome ≡ o → On n (step_of p e m).after → On (suc n) m
-      go Finished h rest s =
+      go : (o : Result ⊤ Stop) → (step_of p e m).outcome ≡ o → On n (step_of p e m).after → On (suc n) m
+      go (Ok tt) h rest s =
           let f = runs-finished p e m n h in
           let r = runs p e k (runs p e n (step_of p e m).after).after in
           let budget : suc n + k ≡ suc (n + k) = omega arith in
           let count : 1 + (n + r.count) ≡ suc n + r.count = omega arith in
           rw f (ap (λ x. runs p e x m) budget ∙ runs-finished p e m (n + k) h ∙ ap (adding 1) (rest (rw f at s)) ∙ ap (counting r) count)
-      go (Stopped x) h rest s = let t = rw (runs-stopped p e m n x h) at s in let z : ◌≡◌ {A = ℕ} 0 1 = cc in absurd (omega arith)
+      go (Err x) h rest s = let t = rw (runs-stopped p e m n x h) at s in let z : ◌≡◌ {A = ℕ} 0 1 = cc in absurd (omega arith)
 
 pub goes_on : GoesOn
 goes_on p e n k m a s =

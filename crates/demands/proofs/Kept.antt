@@ -25,8 +25,8 @@ use Rattle.element.proofs.Diff.{Diff, diff-pos, diff-neg, diff-add}
 use Rattle.ops.specs.Meaning.{memory_at, zero_at}
 use Rattle.plan.specs.declared.Plan.{Plan}
 use Rattle.plan.specs.declared.Plan.TheVariants as plan
-use Rattle.plan.specs.declared.planned.Early.{Early}
-use Rattle.plan.specs.declared.planned.Early.TheVariants.{Go, Stops}
+use Rattle.std.specs.Prelude.{Ok, Err, Result, ⊤}
+use Rattle.state.specs.declared.stops.Stop.{Stop}
 use Rattle.plan.specs.Numbers.{address, target}
 use Rattle.plan.specs.Plan.{plan_of, executed, general_at, marked, kind_of, early, unless}
 use Rattle.plan.specs.There.{There}
@@ -35,7 +35,6 @@ use Rattle.plan.specs.Zero.{taken_of, taken_vof}
 use Rattle.state.specs.declared.control.Control.{Control}
 use Rattle.state.specs.declared.control.Mark.{Mark}
 use Rattle.state.specs.declared.control.Mark.TheVariants.{Clear, NotTaken, Taken}
-use Rattle.state.specs.declared.setup.Setup.TheVariants.{Accepted, Refused}
 use Rattle.state.specs.Csr.{masked, arms, arming}
 use Rattle.state.specs.Machine.{Env, Machine, machine}
 use Rattle.state.specs.Setup.{Limit, refusal, first, state_bad, target_bad}
@@ -51,12 +50,12 @@ use Rattle.demands.proofs.Demand2.{finished-step, meant-there}
 
 -- a table stays passed where its first row stays unbroken and the rest stays passed
 row_kept : (l l' : Limit) (ls ls' : List Limit)
-    → (l.broken ≡ false → l'.broken ≡ false) → (first ls ≡ Accepted → first ls' ≡ Accepted)
-    → first (l ∷ ls) ≡ Accepted → first (l' ∷ ls') ≡ Accepted
+    → (l.broken ≡ false → l'.broken ≡ false) → (first ls ≡ Ok tt → first ls' ≡ Ok tt)
+    → first (l ∷ ls) ≡ Ok tt → first (l' ∷ ls') ≡ Ok tt
 unfolding first
 row_kept l l' ls ls' f g e = go l.broken refl e
   where
-    go : (b : Bool) → l.broken ≡ b → cond b (Refused l.refusal) (first ls) ≡ Accepted → first (l' ∷ ls') ≡ Accepted
+    go : (b : Bool) → l.broken ≡ b → cond b (Err l.refusal) (first ls) ≡ Ok tt → first (l' ∷ ls') ≡ Ok tt
     go true h k = let z : ◌≡◌ {A = ℕ} 0 1 = cc in absurd (omega arith)
     go false h k = rw (f h) (g k)
 
@@ -162,9 +161,9 @@ module _ (e : Env) (m : Machine) where
   executed-within (instr.Scaled o rd rs rt sa) = tt
   executed-within (instr.Fixed o df wd ws wt) = tt
 
-  unless-within : (i : Instr) (s : Early) (q : Plan) → Kept i q → Kept i (unless s q)
-  unless-within i Go q h = h
-  unless-within i (Stops s) q h = tt
+  unless-within : (i : Instr) (s : Result ⊤ Stop) (q : Plan) → Kept i q → Kept i (unless s q)
+  unless-within i (Ok tt) q h = h
+  unless-within i (Err s) q h = tt
 
   pub planned-within : (i : Instr) → Within m.ctl.pc i (plan_of e m i)
   unfolding plan_of
@@ -195,7 +194,7 @@ module _ (g : List ℕ) (r : Greg) (x : ℕ) (long : length g ≡ 256) (small : 
 
 -- a machine
 
-module _ (p : List ℕ) (e : Env) (m : Machine) (ok : refusal p e m ≡ Accepted) where
+module _ (p : List ℕ) (e : Env) (m : Machine) (ok : refusal p e m ≡ Ok tt) where
   sized : Sized e m
   sized = accepted p e m ok
 
@@ -205,7 +204,7 @@ module _ (p : List ℕ) (e : Env) (m : Machine) (ok : refusal p e m ≡ Accepted
   -- another one with these lengths and a sound state is accepted too
   like : (v g w : List ℕ) (c : Control)
       → length v ≡ length m.vec → length g ≡ length m.gen → length w ≡ length m.work
-      → (Sound (zeroth m.gen) m.ctl → Sound (zeroth g) c) → refusal p e (machine v g w c) ≡ Accepted
+      → (Sound (zeroth m.gen) m.ctl → Sound (zeroth g) c) → refusal p e (machine v g w c) ≡ Ok tt
   unfolding refusal
   like v g w c hv hg hw s =
       row_kept _ _ _ _ (λ h. rw (hv, hg) h)
@@ -228,7 +227,7 @@ module _ (p : List ℕ) (e : Env) (m : Machine) (ok : refusal p e m ≡ Accepted
       }
 
   applied-accepted : (j : Instr) (q : Plan) → There e.board.work (length m.work) q → Within m.ctl.pc j q
-      → refusal p e (applied e.board.work q m) ≡ Accepted
+      → refusal p e (applied e.board.work q m) ≡ Ok tt
   applied-accepted j (plan.Stop s) h i = ok
   applied-accepted j plan.Nothing h i =
       like _ _ _ _ refl refl refl (forward m.gen Clear m.ctl.csr refl (λ z. refl) (λ x. x))

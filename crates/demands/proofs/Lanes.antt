@@ -8,7 +8,7 @@ use native.Mathlib.Nat.{mod-eq_of_lt}
 use native.Mathlib.Omega.{arith}
 use lib.ListN.{get_or}
 use Rattle.isa.specs.declared.Instr.{Instr}
-use Rattle.isa.specs.declared.Read.TheVariants as read
+use Rattle.std.specs.Prelude.{Ok, Some}
 use Rattle.isa.specs.declared.Vreg.{Vreg}
 use Rattle.isa.specs.declared.Width.{Width}
 use Rattle.isa.specs.Widths.{bits}
@@ -25,31 +25,28 @@ use Rattle.reading.specs.Reading.{read_of}
 use Rattle.plan.specs.declared.Plan.{Plan}
 use Rattle.plan.specs.declared.planned.Kind.TheVariants.{Switched}
 use Rattle.plan.specs.Plan.{plan_of, executed, kind_of, writes, switched_early, unless}
-use Rattle.state.specs.declared.fetch.Fetched.TheVariants.{Word}
-use Rattle.state.specs.declared.setup.Setup.TheVariants.{Accepted}
 use Rattle.state.specs.Fetch.{fetched}
 use Rattle.state.specs.Machine.{Env, Machine}
 use Rattle.state.specs.Setup.{refusal}
 use Rattle.state.proofs.SetupLaws.{accepted}
-use Rattle.machine.specs.declared.step.Outcome.TheVariants.{Finished}
-use Rattle.machine.specs.Step.{Result, step_of, concluded, outcome_of}
+use Rattle.machine.specs.Step.{Ending, step_of, concluded, outcome_of}
 use Rattle.demands.specs.Demand2.{Meant}
 use Rattle.demands.specs.Lanes.{lane_at}
 use Rattle.demands.proofs.Demand2.{meant-there}
 use Rattle.demands.proofs.Written.{register-byte}
 
 -- a finished step was not switched off
-pub by-switch : (q : Plan) (on : Bool) → outcome_of (unless (switched_early on) q) ≡ Finished
+pub by-switch : (q : Plan) (on : Bool) → outcome_of (unless (switched_early on) q) ≡ Ok tt
     → unless (switched_early on) q ≡ q
 by-switch q true h = refl
 by-switch q false h = let z : ◌≡◌ {A = ℕ} 0 1 = cc in absurd (omega arith)
 
 -- an instruction that 16 concerns, and that writes the number made to wd
 module _ (instruction : Instr) (wd : Vreg) (made : ℕ) (p : List ℕ) (e : Env) (m : Machine) (w : ℕ)
-    (ok : refusal p e m ≡ Accepted)
-    (there : fetched p e.board.program m.ctl.pc ≡ Word w)
-    (reads : read_of w ≡ read.Instr instruction)
-    (done : (step_of p e m).outcome ≡ Finished)
+    (ok : refusal p e m ≡ Ok tt)
+    (there : fetched p e.board.program m.ctl.pc ≡ Some w)
+    (reads : read_of w ≡ Ok instruction)
+    (done : (step_of p e m).outcome ≡ Ok tt)
     (kind : kind_of instruction ≡ Switched)
     (makes : executed e m instruction ≡ writes wd made) where
   step_is : step_of p e m ≡ concluded e.board.work (plan_of e m instruction) m
@@ -63,8 +60,8 @@ module _ (instruction : Instr) (wd : Vreg) (made : ℕ) (p : List ℕ) (e : Env)
         instruction = instruction;
         there = there;
         reads = reads;
-        finishes = sym (ap (λ (r : Result). r.outcome) step_is) ∙ done;
-        after = ap (λ (r : Result). r.after) step_is;
+        finishes = sym (ap (λ (r : Ending). r.outcome) step_is) ∙ done;
+        after = ap (λ (r : Ending). r.after) step_is;
       }
 
   shape : plan_of e m instruction ≡ unless (switched_early m.ctl.on) (writes wd made)

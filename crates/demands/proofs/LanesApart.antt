@@ -9,7 +9,7 @@ use native.Mathlib.Omega.{arith}
 use Rattle.isa.specs.declared.Instr.{Instr}
 use Rattle.isa.specs.declared.Instr.TheVariants as instr
 use Rattle.isa.specs.declared.Logic.{Logic}
-use Rattle.isa.specs.declared.Read.TheVariants as read
+use Rattle.std.specs.Prelude.{Ok}
 use Rattle.isa.specs.declared.Three.{Three}
 use Rattle.isa.specs.declared.Three.TheVariants as three
 use Rattle.isa.specs.declared.BitOp.TheVariants as bit
@@ -131,7 +131,7 @@ module _ (n k : ℕ) (fits : n * k + n ≤ 128) (v v' : List ℕ) (bytes : AreBy
   alike rs (place j) a = place-alike rs j a
   alike rs (always x) a = refl
 
-module _ (w : ℕ) (i : Instr) (reads : read_of w ≡ read.Instr i) (n : ℕ) (x : Wise i n) where
+module _ (w : ℕ) (i : Instr) (reads : read_of w ≡ Ok i) (n : ℕ) (x : Wise i n) where
   abbrev registers : List Vreg
   registers = x.wd ∷ (operands_of i).sources
 

@@ -23,7 +23,7 @@ use Rattle.state.specs.Machine.{Machine, machine}
 use Rattle.state.specs.Setup.{refusal, first}
 use Rattle.vectors.specs.Register.{element, build, filled}
 use Rattle.machine.specs.declared.run.Reason.TheVariants.{Spent}
-use Rattle.machine.specs.declared.step.Outcome.TheVariants.{Finished}
+use Rattle.std.specs.Prelude.{Ok}
 use Rattle.machine.specs.Run.{runs}
 use Rattle.machine.specs.Step.{result, step_of}
 use Rattle.demands.specs.Laps.{lap_env, lap_machine, Beyond, Twice, endless, Endless}
@@ -46,7 +46,7 @@ in_slot =
     (record { pc = 4; mark = Taken 0; csr = 0; on = true })
 
 abbrev goes_to : Machine → Machine → Type 0
-goes_to m m' = step_of endless (lap_env 0) m ≡ result Finished m'
+goes_to m m' = step_of endless (lap_env 0) m ≡ result (Ok tt) m'
 
 round : goes_to (lap_machine 0 0) in_slot × goes_to in_slot (lap_machine 0 0)
 unfolding read_of place_of row_at step_of fetched plan_of number zero_at register_at with_register replaced bytes_of register

@@ -14,8 +14,7 @@ use Rattle.state.specs.declared.control.Mark.{Mark}
 use Rattle.state.specs.declared.control.Mark.TheVariants.{Clear, NotTaken, Taken}
 use Rattle.state.specs.declared.setup.Refusal.{Refusal}
 use Rattle.state.specs.declared.setup.Refusal.TheVariants as refusals
-use Rattle.state.specs.declared.setup.Setup.{Setup}
-use Rattle.state.specs.declared.setup.Setup.TheVariants.{Accepted, Refused}
+use Rattle.std.specs.Prelude.{Ok, Err, Result, ⊤}
 use Rattle.state.specs.Csr.{masked}
 use Rattle.state.specs.Machine.{Env, Machine}
 use Rattle.state.specs.Numbers.{refusal_number}
@@ -90,20 +89,20 @@ state : (g : List ℕ) (c : Control) → Reflects (state_bad (number (part g 0 8
 state g c = four-reflect _ _ _ _ (zero g) (differs (c.pc % 4) 0) (taken c.mark) (outside-reflects c.csr)
 
 -- the number of a set-up, and n where it is accepted
-abbrev pub or_number : Setup → ℕ → ℕ
-or_number Accepted n = n
-or_number (Refused r) n = refusal_number r
+abbrev pub or_number : Result ⊤ Refusal → ℕ → ℕ
+or_number (Ok tt) n = n
+or_number (Err r) n = refusal_number r
 
 -- one row more before the rest
-row_first : (b : Bool) {P : Type 0} → Reflects b P → (r : Refusal) (s : Setup) (rows : List Row) (n : ℕ)
+row_first : (b : Bool) {P : Type 0} → Reflects b P → (r : Refusal) (s : Result ⊤ Refusal) (rows : List Row) (n : ℕ)
     → (b ≡ false → First rows (or_number s n))
-    → First (row (refusal_number r) P ∷ rows) (or_number (cond b (Refused r) s) n)
+    → First (row (refusal_number r) P ∷ rows) (or_number (cond b (Err r) s) n)
 row_first true x r s rows n f = given (x.yes refl)
 row_first false x r s rows n f = passed (x.no refl) (f refl)
 
 -- the limits before other rows
 pub limits-first : (p : List ℕ) (e : Env) (m : Machine) (rows : List Row) (n : ℕ)
-    → (refusal p e m ≡ Accepted → First rows n)
+    → (refusal p e m ≡ Ok tt → First rows n)
     → First (limits p e m ++ rows) (or_number (refusal p e m) n)
 unfolding refusal first
 limits-first p e m rows n f =
@@ -111,11 +110,11 @@ limits-first p e m rows n f =
     (λ a. row_first _ (program e.board.program (length p)) refusals.Program _ _ n
     (λ b. row_first _ (windows e m) refusals.WindowSize _ _ n
     (λ c. row_first _ (meets e m) refusals.SharedAddress _ _ n
-    (λ d. row_first _ (state m.gen m.ctl) refusals.State Accepted _ n (λ g. f (rw (a, b, c, d, g)))))))
+    (λ d. row_first _ (state m.gen m.ctl) refusals.State (Ok tt) _ n (λ g. f (rw (a, b, c, d, g)))))))
 
-numbered : (s : Setup) → or_number s 0 ≡ setup_number s
-numbered Accepted = refl
-numbered (Refused r) = refl
+numbered : (s : Result ⊤ Refusal) → or_number s 0 ≡ setup_number s
+numbered (Ok tt) = refl
+numbered (Err r) = refl
 
 pub first-limit : FirstLimit
 first-limit p e m = rw (numbered (refusal p e m)) at (limits-first p e m [] 0 (λ a. none))

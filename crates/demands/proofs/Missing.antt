@@ -12,8 +12,7 @@ use lib.Pow.{pow_pos}
 use Rattle.isa.specs.declared.Instr.{Instr}
 use Rattle.isa.specs.declared.Memory.{Memory}
 use Rattle.state.specs.declared.setup.Refusal.{Refusal}
-use Rattle.state.specs.declared.setup.Setup.{Setup}
-use Rattle.state.specs.declared.setup.Setup.TheVariants.{Accepted, Refused}
+use Rattle.std.specs.Prelude.{Ok, Err, Result, ⊤}
 use Rattle.state.specs.declared.stops.Stop.{Stop}
 use Rattle.state.specs.declared.stops.Stop.TheVariants as stop
 use Rattle.state.specs.Machine.{Env, Machine}
@@ -22,9 +21,6 @@ use Rattle.state.specs.Setup.{refusal}
 use Rattle.state.specs.Windows.{lies_in, first_outside, missing}
 use Rattle.state.proofs.WindowLaws.{outside-here, outside-next, missing-table, missing-other}
 use Rattle.machine.specs.declared.run.Reason.{Reason}
-use Rattle.machine.specs.declared.step.Answer.{Answer}
-use Rattle.machine.specs.declared.step.Outcome.{Outcome}
-use Rattle.machine.specs.declared.step.Outcome.TheVariants.{Finished, Stopped}
 use Rattle.machine.specs.Numbers.{outcome_number, answer_number, reason_number}
 use Rattle.machine.specs.Numbers.{outcome_missing, answer_missing, reason_missing, outcome_carried}
 use Rattle.machine.specs.Run.{whole_run}
@@ -142,7 +138,7 @@ one_outside {n} {base} {len} {a} {x} {y} f g = go (dec_lt f.place g.place) (dec_
         f.is ∙ ap (λ k. (a + k) % 2 ^ 64) same ∙ sym g.is
 
 -- limit 4
-windows-apart : (p : List ℕ) (e : Env) (m : Machine) → refusal p e m ≡ Accepted → (a : ℕ) → TableHolds e a
+windows-apart : (p : List ℕ) (e : Env) (m : Machine) → refusal p e m ≡ Ok tt → (a : ℕ) → TableHolds e a
     → WorkHolds e m a → ⊥
 windows-apart p e m ok a t w =
     let rows : First (limits p e m) 0 = rw ok at (first-limit p e m) in
@@ -150,7 +146,7 @@ windows-apart p e m ok a t w =
     (skipped (λ k. omega arith) (skipped (λ k. omega arith) (skipped (λ k. omega arith) rows)))
     (record { number = a; holds = (t, w) })
 
-one_address : (p : List ℕ) (e : Env) (m : Machine) → refusal p e m ≡ Accepted
+one_address : (p : List ℕ) (e : Env) (m : Machine) → refusal p e m ≡ Ok tt
     → (a x y : ℕ) → Missing e m a x → Missing e m a y → x ≡ y
 one_address p e m ok a x y (table h f) (table k g) = one_outside f g
 one_address p e m ok a x y (table h f) (work k g) = absurd (windows-apart p e m ok a h k)
@@ -163,7 +159,7 @@ one_address p e m ok a x y (nowhere t w f) (work k g) = absurd (w k)
 one_address p e m ok a x y (nowhere t w f) (nowhere u v g) = f ∙ sym g
 
 -- the access is that of the instruction at the counter
-pub one-access : (p : List ℕ) (e : Env) (m : Machine) → refusal p e m ≡ Accepted → (i : Instr) (x y : ℕ)
+pub one-access : (p : List ℕ) (e : Env) (m : Machine) → refusal p e m ≡ Ok tt → (i : Instr) (x y : ℕ)
     → Accesses m (λ o a. Missing e m a x) i → Accesses m (λ o a. Missing e m a y) i → x ≡ y
 one-access p e m ok i x y (at q) (at r) = one_address p e m ok _ x y q r
 
@@ -186,9 +182,9 @@ stop-none (stop.NoWindow x) h = absurd (h refl)
 stop-none (stop.ReadOnly x) h = refl
 stop-none (stop.Trap bits) h = refl
 
-outcome-none : (o : Outcome) → Not (outcome_number o ≡ 17) → outcome_missing o ≡ 0
-outcome-none Finished h = refl
-outcome-none (Stopped s) h = stop-none s h
+outcome-none : (o : Result ⊤ Stop) → Not (outcome_number o ≡ 17) → outcome_missing o ≡ 0
+outcome-none (Ok tt) h = refl
+outcome-none (Err s) h = stop-none s h
 
 -- neither window holds the sixteen addresses from a
 abbrev InNeither : Env → Machine → Memory → ℕ → Type 0
@@ -205,11 +201,11 @@ seventeen p e m n h f =
 
 module _ (p : List ℕ) (e : Env) (m : Machine) where
   -- the step's outcome
-  abbrev pub ends : Outcome
+  abbrev pub ends : Result ⊤ Stop
   ends = (step_of p e m).outcome
 
   -- an access in neither window stops with 17 and names the address that is missing
-  pub accepted-names : refusal p e m ≡ Accepted → Names p e m (outcome_number ends) (outcome_missing ends)
+  pub accepted-names : refusal p e m ≡ Ok tt → Names p e m (outcome_number ends) (outcome_missing ends)
   accepted-names ok =
       record {
         missing = λ h.
@@ -237,12 +233,12 @@ pub step-names : (p : List ℕ) (e : Env) (m : Machine)
     → Names p e m (answer_number (whole_step p e m).answer) (answer_missing (whole_step p e m).answer)
 step-names p e m = go (refusal p e m) refl
   where
-    answered : Setup → Answer
+    answered : Result ⊤ Refusal → Result (Result ⊤ Stop) Refusal
     answered q = (whole q (step_of p e m) m).answer
 
-    go : (q : Setup) → refusal p e m ≡ q → Names p e m (answer_number (answered q)) (answer_missing (answered q))
-    go Accepted h = accepted-names p e m h
-    go (Refused r) h = refused-names p e m r
+    go : (q : Result ⊤ Refusal) → refusal p e m ≡ q → Names p e m (answer_number (answered q)) (answer_missing (answered q))
+    go (Ok tt) h = accepted-names p e m h
+    go (Err r) h = refused-names p e m r
 
 pub step-missing : StepMissing
 step-missing p e m r v g w i = rw (answer-is i) (step-names p e m)
@@ -251,7 +247,7 @@ step-missing p e m r v g w i = rw (answer-is i) (step-names p e m)
 
 module _ (p : List ℕ) (e : Env) (budget : ℕ) where
   -- where it ended
-  why-names : (count : ℕ) (m : Machine) (r : Reason) → refusal p e m ≡ Accepted → Why p e budget count m r
+  why-names : (count : ℕ) (m : Machine) (r : Reason) → refusal p e m ≡ Ok tt → Why p e budget count m r
       → Names p e m (reason_number r) (reason_missing r)
   why-names count m r ok (spent h) = nothing p e m 20 (λ k. omega arith)
   why-names count m r ok (stopped s l h) = rw h at (accepted-names p e m ok)
@@ -262,13 +258,13 @@ module _ (p : List ℕ) (e : Env) (budget : ℕ) where
       (reason_missing (whole_run p e budget m).reason)
   run-names m = go (refusal p e m) refl
     where
-      go : (q : Setup) → refusal p e m ≡ q
+      go : (q : Result ⊤ Refusal) → refusal p e m ≡ q
           → Names p e (whole_run p e budget m).after (reason_number (whole_run p e budget m).reason)
           (reason_missing (whole_run p e budget m).reason)
-      go Accepted h =
+      go (Ok tt) h =
           let ends = accepted-run p e budget m h in
           why-names _ _ _ (steps-accepted p e _ m _ ends.steps h) ends.why
-      go (Refused r) h = rw (refused-run p e budget m r h) (refused-names p e m r)
+      go (Err r) h = rw (refused-run p e budget m r h) (refused-names p e m r)
 
 pub run-missing : RunMissing
 run-missing p e budget m r v g w i =

@@ -34,7 +34,7 @@ use Rattle.plan.specs.declared.Plan.{Plan}
 use Rattle.plan.specs.declared.Plan.TheVariants as plan
 use Rattle.plan.specs.Numbers.{address}
 use Rattle.plan.specs.Plan.{plan_of, accessed, loaded, stored, writes, general_at}
-use Rattle.state.specs.declared.setup.Setup.TheVariants.{Accepted}
+use Rattle.std.specs.Prelude.{Ok}
 use Rattle.state.specs.declared.windows.Spot.{Spot}
 use Rattle.state.specs.declared.windows.Spot.TheVariants.{Table, Work, Outside}
 use Rattle.state.specs.Machine.{Env, Machine}
@@ -42,8 +42,7 @@ use Rattle.state.specs.Setup.{refusal}
 use Rattle.state.specs.Windows.{spot_of}
 use Rattle.state.proofs.SetupLaws.{accepted}
 use Rattle.state.proofs.WindowLaws.{spot-table, spot-work}
-use Rattle.machine.specs.declared.step.Outcome.TheVariants.{Finished}
-use Rattle.machine.specs.Step.{Result, step_of, outcome_of, concluded}
+use Rattle.machine.specs.Step.{Ending, step_of, outcome_of, concluded}
 use Rattle.demands.specs.AtCounter.{element_bytes}
 use Rattle.demands.specs.Tables.{Not, Inside}
 use Rattle.demands.specs.Destination.{Access, first_of}
@@ -164,7 +163,7 @@ start x m = address x.df x.s10 (general_at m.gen x.rs)
 abbrev pub spot : Access → Env → Machine → Spot
 spot x e m = spot_of e.board (length e.table) (length m.work) (start x m)
 
-module _ (o : Memory) (x : Access) (p : List ℕ) (e : Env) (m : Machine) (ok : refusal p e m ≡ Accepted)
+module _ (o : Memory) (x : Access) (p : List ℕ) (e : Env) (m : Machine) (ok : refusal p e m ≡ Ok tt)
     (d : Done o x p e m) where
   abbrev done : Plan
   done = accessed o x.df e.board e.table m.vec m.work x.wd (start x m)
@@ -182,14 +181,14 @@ module _ (o : Memory) (x : Access) (p : List ℕ) (e : Env) (m : Machine) (ok : 
   unfolding plan_of
   planned =
       by-switch (accessed (memory_at d.op.0) x.df e.board e.table m.vec m.work x.wd (start x m))
-      m.ctl.on (sym (ap (λ (r : Result). r.outcome) step_is) ∙ d.finished)
+      m.ctl.on (sym (ap (λ (r : Ending). r.outcome) step_is) ∙ d.finished)
       ∙ ap (λ o. accessed o x.df e.board e.table m.vec m.work x.wd (start x m)) d.is
 
   done-is : step_of p e m ≡ concluded e.board.work done m
   done-is = step_is ∙ ap (λ q. concluded e.board.work q m) planned
 
-  finishes : outcome_of done ≡ Finished
-  finishes = sym (ap (λ (r : Result). r.outcome) done-is) ∙ d.finished
+  finishes : outcome_of done ≡ Ok tt
+  finishes = sym (ap (λ (r : Ending). r.outcome) done-is) ∙ d.finished
 
   register-small : x.wd.0 < 32
   register-small = (formed _ instruction d.reads.holds.1).0
@@ -202,12 +201,12 @@ record Came (x : Access) (p : List ℕ) (e : Env) (m : Machine) (a base : ℕ) (
       ≡ concluded e.board.work
       (writes x.wd (register_in e.board.order (bytes x.df) (part w (a - base) 16))) m
 
-module _ (x : Access) (p : List ℕ) (e : Env) (m : Machine) (ok : refusal p e m ≡ Accepted) (d : Done Ld x p e m) where
+module _ (x : Access) (p : List ℕ) (e : Env) (m : Machine) (ok : refusal p e m ≡ Ok tt) (d : Done Ld x p e m) where
   abbrev Comes : ℕ → List ℕ → Type 0
   Comes = Came x p e m (start x m)
 
   came_from : (s : Spot) → spot x e m ≡ s
-      → outcome_of (loaded s e.board.order x.df x.wd e.table m.work) ≡ Finished
+      → outcome_of (loaded s e.board.order x.df x.wd e.table m.work) ≡ Ok tt
       → step_of p e m ≡ concluded e.board.work (loaded s e.board.order x.df x.wd e.table m.work) m
       → Comes e.board.table e.table ⊎ Comes e.board.work m.work
   came_from (Table k) q f r =
@@ -253,13 +252,13 @@ record Went (x : Access) (p : List ℕ) (e : Env) (m : Machine) (a : ℕ) : Type
       ≡ concluded e.board.work
       (plan.Store a (register (turned e.board.order (bytes x.df) (register_at m.vec x.wd)))) m
 
-went : (x : Access) (p : List ℕ) (e : Env) (m : Machine) (ok : refusal p e m ≡ Accepted) (d : Done St x p e m)
+went : (x : Access) (p : List ℕ) (e : Env) (m : Machine) (ok : refusal p e m ≡ Ok tt) (d : Done St x p e m)
     → Went x p e m (start x m)
 went x p e m ok d = go (spot x e m) refl (finishes St x p e m ok d) (done-is St x p e m ok d)
   where
     go : (s : Spot) → spot x e m ≡ s
         → outcome_of (stored s e.board.order x.df (start x m) (register_at m.vec x.wd))
-        ≡ Finished
+        ≡ Ok tt
         → step_of p e m
         ≡ concluded e.board.work
         (stored s e.board.order x.df (start x m) (register_at m.vec x.wd)) m
@@ -303,7 +302,7 @@ unfolding register_at with_register
 gives_back x y p e m ok are_bytes d g same at b h =
     let o : Order = e.board.order in
     let m₁ : Machine = (step_of p e m).after in
-    let ok₁ : refusal p e m₁ ≡ Accepted = stays-accepted p e m ok d.finished in
+    let ok₁ : refusal p e m₁ ≡ Ok tt = stays-accepted p e m ok d.finished in
     let a : ℕ = start x m in
     let i : ℕ = a - e.board.work in
     let held : List ℕ = part m.vec (16 * x.wd.0) 16 in
@@ -313,7 +312,7 @@ gives_back x y p e m ok are_bytes d g same at b h =
     let t : Went x p e m a = went x p e m ok d in
     let put : List ℕ = bytes_of 16 (value (register (turned o (bytes x.df) v))) in
     let size = length-bytes_of 16 (value (register (turned o (bytes x.df) v))) in
-    let work : m₁.work ≡ replaced m.work i put = ap (λ (r : Result). r.after.work) t.is in
+    let work : m₁.work ≡ replaced m.work i put = ap (λ (r : Ending). r.after.work) t.is in
     let long : length m₁.work ≡ length m.work =
     ap length work ∙ length-replaced m.work i put (omega (arith, size, t.from, t.to)) in
     let again : start y m₁ ≡ a = sym (first-is Ld y p e m₁ ok₁ g) ∙ sym at ∙ first-is St x p e m ok d in
@@ -326,7 +325,7 @@ gives_back x y p e m ok are_bytes d g same at b h =
     ∙ ap (λ z. concluded e.board.work (writes y.wd z) m₁) back in
     let long₁ = (accepted p e m₁ ok₁).vectors in
     let small₁ = register-small Ld y p e m₁ ok₁ g in
-    ap (λ (r : Result). get_or r.after.vec (16 * y.wd.0 + b) 0) ends
+    ap (λ (r : Ending). get_or r.after.vec (16 * y.wd.0 + b) 0) ends
     ∙ register-byte m₁.vec (16 * y.wd.0) v (omega (arith, long₁, small₁)) below b h
     ∙ byte-in held (part_bytes m.vec (16 * x.wd.0) 16 are_bytes) b
     ∙ get_d_part m.vec (16 * x.wd.0) 16 b h

@@ -14,8 +14,8 @@ use Rattle.isa.specs.declared.Instr.TheVariants as instr
 use Rattle.isa.specs.declared.Memory.{Memory}
 use Rattle.isa.specs.declared.Memory.TheVariants.{Ld, St}
 use Rattle.isa.specs.declared.Op.{Op}
-use Rattle.isa.specs.declared.Read.{Read}
-use Rattle.isa.specs.declared.Read.TheVariants as read
+use Rattle.std.specs.Prelude.{Ok, Err, None, Result}
+use Rattle.isa.specs.declared.Unread.{Unread}
 use Rattle.isa.specs.declared.Unread.TheVariants.{Unassigned, LeftOut, Other}
 use Rattle.isa.specs.declared.Vreg.{Vreg}
 use Rattle.isa.specs.declared.Width.{Width}
@@ -33,16 +33,14 @@ use Rattle.ops.specs.Meaning.{memory_at}
 use Rattle.reading.specs.Reading.{read_of}
 use Rattle.state.specs.declared.control.Mark.{Mark}
 use Rattle.state.specs.declared.control.Mark.TheVariants.{Clear, NotTaken, Taken}
-use Rattle.state.specs.declared.fetch.Fetched.TheVariants.{Word, NoWord}
 use Rattle.state.specs.declared.stops.Stop.TheVariants.{Trap}
-use Rattle.state.specs.declared.windows.Found.TheVariants.{At, Nowhere}
 use Rattle.state.specs.Csr.{masked, arms, arming}
 use Rattle.state.specs.Fetch.{fetched}
 use Rattle.state.specs.Machine.{Env, Machine}
 use Rattle.state.specs.Windows.{placed, or_else}
 use Rattle.state.proofs.SetupLaws.{Sized, accepted}
 use Rattle.machine.specs.Numbers.{outcome_number}
-use Rattle.machine.specs.Step.{Result, step_of, outcome_of, concluded, attempted, decided}
+use Rattle.machine.specs.Step.{Ending, step_of, outcome_of, concluded, attempted, decided}
 use Rattle.machine.specs.Why.{word_here}
 use Rattle.demands.specs.AtCounter.{IsBranch, format, whole, IgnoresSwitch, scaled, general, element_bytes}
 use Rattle.demands.specs.AtCounter.{address_from, first_address, Accesses, at, SetsCsr, to, InTable, InWork, Arms}
@@ -130,14 +128,14 @@ same_address m df offset rs =
 
 module _ (e : Env) (m : Machine) (sized : Sized e m) where
   -- the facts of the rows
-  abbrev Nowhere? : Memory → ℕ → Type 0
-  Nowhere? o a = Not (InTable e a) × Not (InWork e m a)
+  abbrev None? : Memory → ℕ → Type 0
+  None? o a = Not (InTable e a) × Not (InWork e m a)
 
   abbrev ReadOnly? : Memory → ℕ → Type 0
   ReadOnly? o a = (o ≡ St) × InTable e a
 
   abbrev risks : Instr → List Row
-  risks i = row 17 (Accesses m Nowhere? i) ∷ row 18 (Accesses m ReadOnly? i) ∷ row 19 (SetsCsr m Arms i) ∷ []
+  risks i = row 17 (Accesses m None? i) ∷ row 18 (Accesses m ReadOnly? i) ∷ row 19 (SetsCsr m Arms i) ∷ []
 
   -- the two windows, as the machine tests them
   abbrev holds_all : ℕ → ℕ → ℕ → Bool
@@ -171,34 +169,34 @@ module _ (e : Env) (m : Machine) (sized : Sized e m) where
     no-csr h = elim h [ ]
 
     -- a load that one of the windows holds
-    load-passes : memory_at k.0 ≡ Ld → Not (Nowhere? (memory_at k.0) a) → First (risks access) 0
+    load-passes : memory_at k.0 ≡ Ld → Not (None? (memory_at k.0) a) → First (risks access) 0
     load-passes p n =
         let not-store : Not (memory_at k.0 ≡ St) = λ q. let l : Ld ≡ St = sym p ∙ q in differ (cc) in
-        passed (λ h. n (accessing Nowhere? h))
+        passed (λ h. n (accessing None? h))
         (passed (λ h. not-store (accessing ReadOnly? h).0) (passed no-csr none))
 
     load-first : memory_at k.0 ≡ Ld → (z : ℕ) (t w : Bool) → Reflects t (InTable e a) → Reflects w (InWork e m a)
         → First (risks access)
         (outcome_number
         (outcome_of (loaded
-        (or_else z (cond t (At (a - e.board.table)) Nowhere) (cond w (At (a - e.board.work)) Nowhere))
+        (or_else z (cond t (Some (a - e.board.table)) None) (cond w (Some (a - e.board.work)) None))
         e.board.order df wd e.table m.work)))
     load-first p z true w x y = load-passes p (λ h. h.0 (x.yes refl))
     load-first p z false true x y = load-passes p (λ h. h.1 (y.yes refl))
-    load-first p z false false x y = given (accesses Nowhere? (x.no refl, y.no refl))
+    load-first p z false false x y = given (accesses None? (x.no refl, y.no refl))
 
     store-first : memory_at k.0 ≡ St → (v z : ℕ) (t w : Bool) → Reflects t (InTable e a) → Reflects w (InWork e m a)
         → First (risks access)
         (outcome_number
         (outcome_of (stored
-        (or_else z (cond t (At (a - e.board.table)) Nowhere) (cond w (At (a - e.board.work)) Nowhere))
+        (or_else z (cond t (Some (a - e.board.table)) None) (cond w (Some (a - e.board.work)) None))
         e.board.order df a v)))
     store-first p v z true w x y =
-        passed (λ h. (accessing Nowhere? h).0 (x.yes refl)) (given (accesses ReadOnly? (p, x.yes refl)))
+        passed (λ h. (accessing None? h).0 (x.yes refl)) (given (accesses ReadOnly? (p, x.yes refl)))
     store-first p v z false true x y =
-        passed (λ h. (accessing Nowhere? h).1 (y.yes refl))
+        passed (λ h. (accessing None? h).1 (y.yes refl))
         (passed (λ h. x.no refl (accessing ReadOnly? h).1) (passed no-csr none))
-    store-first p v z false false x y = given (accesses Nowhere? (x.no refl, y.no refl))
+    store-first p v z false false x y = given (accesses None? (x.no refl, y.no refl))
 
     access-first : (o : Memory) → memory_at k.0 ≡ o
         → First (risks access)
@@ -230,14 +228,14 @@ module _ (e : Env) (m : Machine) (sized : Sized e m) where
         (outcome_number
         (outcome_of (cond one (cond trap (plan.Stop (Trap (arming (masked x)))) (plan.Csr (masked x))) plan.Nothing)))
     control-first true true a b =
-        passed (no_access Nowhere?) (passed (no_access ReadOnly?) (given (sets (a.yes refl, b.yes refl))))
+        passed (no_access None?) (passed (no_access ReadOnly?) (given (sets (a.yes refl, b.yes refl))))
     control-first true false a b =
-        passed (no_access Nowhere?) (passed (no_access ReadOnly?) (passed (λ h. b.no refl (set h).1) none))
+        passed (no_access None?) (passed (no_access ReadOnly?) (passed (λ h. b.no refl (set h).1) none))
     control-first false trap a b =
-        passed (no_access Nowhere?) (passed (no_access ReadOnly?) (passed (λ h. a.no refl (set h).0) none))
+        passed (no_access None?) (passed (no_access ReadOnly?) (passed (λ h. a.no refl (set h).0) none))
 
   -- an instruction that none of them concerns
-  quiet : {i : Instr} → Not (Accesses m Nowhere? i) → Not (Accesses m ReadOnly? i) → Not (SetsCsr m Arms i)
+  quiet : {i : Instr} → Not (Accesses m None? i) → Not (Accesses m ReadOnly? i) → Not (SetsCsr m Arms i)
       → First (risks i) 0
   quiet n r c = passed n (passed r (passed c none))
 
@@ -288,7 +286,7 @@ module _ (p : List ℕ) (base x : ℕ) where
 
 module _ (p : List ℕ) (e : Env) (m : Machine) where
   -- there is one
-  pub one-reading : {r r' : Read} → ReadsAs p e m r → ReadsAs p e m r' → r ≡ r'
+  pub one-reading : {r r' : Result Instr Unread} → ReadsAs p e m r → ReadsAs p e m r' → r ≡ r'
   one-reading s t =
       let k : s.number ≡ t.number = omega (arith, s.holds.0.1, t.holds.0.1) in
       sym s.holds.1 ∙ ap (λ i. read_of (little p (4 * i) 4)) k ∙ t.holds.1
@@ -300,7 +298,7 @@ module _ (p : List ℕ) (e : Env) (m : Machine) where
       h c.instruction c.holds (rw same at d.holds)
 
   -- 15 to 19 of the instruction that it reads as
-  module _ (i : Instr) (here : ReadsAs p e m (read.Instr i)) where
+  module _ (i : Instr) (here : ReadsAs p e m (Ok i)) where
     does : {f : Instr → Type 0} → f i → Does p e m f
     does h = record { instruction = i; reads = here; holds = h }
 
@@ -332,27 +330,27 @@ module _ (p : List ℕ) (e : Env) (m : Machine) where
   unfolding fetched
   word-is s = go stands? stands
     where
-      go : (b : Bool) → Reflects b (Some (StandsAt p e m)) → IsWord p e m (word_here (cond b (Word w) NoWord))
+      go : (b : Bool) → Reflects b (Some (StandsAt p e m)) → IsWord p e m (word_here (cond b (Some w) None))
       go true x = record { number = s.number; holds = (s.holds, sym (spelt s)) }
       go false x = absurd (x.no refl s)
 
   -- a word is fetched exactly where it stands
-  pub word-fetched : {v : ℕ} → IsWord p e m v → fetched p e.board.program m.ctl.pc ≡ Word v
+  pub word-fetched : {v : ℕ} → IsWord p e m v → fetched p e.board.program m.ctl.pc ≡ Some v
   unfolding fetched
   word-fetched {v} s = go stands? stands
     where
       at : Some (StandsAt p e m)
       at = record { number = s.number; holds = s.holds.0 }
 
-      go : (b : Bool) → Reflects b (Some (StandsAt p e m)) → cond b (Word w) NoWord ≡ Word v
-      go true x = ap Word (sym (s.holds.1 ∙ spelt at))
+      go : (b : Bool) → Reflects b (Some (StandsAt p e m)) → cond b (Some w) None ≡ Some v
+      go true x = ap Some (sym (s.holds.1 ∙ spelt at))
       go false x = absurd (x.no refl at)
 
-  pub fetched-word : {v : ℕ} → fetched p e.board.program m.ctl.pc ≡ Word v → IsWord p e m v
+  pub fetched-word : {v : ℕ} → fetched p e.board.program m.ctl.pc ≡ Some v → IsWord p e m v
   unfolding fetched
   fetched-word {v} = go stands? stands
     where
-      go : (b : Bool) → Reflects b (Some (StandsAt p e m)) → cond b (Word w) NoWord ≡ Word v → IsWord p e m v
+      go : (b : Bool) → Reflects b (Some (StandsAt p e m)) → cond b (Some w) None ≡ Some v → IsWord p e m v
       go true x q =
           let s = x.yes refl in
           let is : v ≡ w = cc in
@@ -360,18 +358,18 @@ module _ (p : List ℕ) (e : Env) (m : Machine) where
       go false x q = differ (cc)
 
   -- the instruction there is what the step does, and decides how it ends
-  pub step-concludes : {i : Instr} → ReadsAs p e m (read.Instr i)
+  pub step-concludes : {i : Instr} → ReadsAs p e m (Ok i)
       → step_of p e m ≡ concluded e.board.work (plan_of e m i) m
   unfolding step_of fetched
   step-concludes {i} here = go stands? stands
     where
       go : (b : Bool) → Reflects b (Some (StandsAt p e m))
-          → attempted (cond b (Word w) NoWord) e m ≡ concluded e.board.work (plan_of e m i) m
+          → attempted (cond b (Some w) None) e m ≡ concluded e.board.work (plan_of e m i) m
       go true x = ap (λ r. decided r e m) (one-reading (reads (x.yes refl)) here)
       go false x = absurd (x.no refl (record { number = here.number; holds = here.holds.0 }))
 
-  pub step-plans : {i : Instr} → ReadsAs p e m (read.Instr i) → (step_of p e m).outcome ≡ outcome_of (plan_of e m i)
-  step-plans here = ap (λ (r : Result). r.outcome) (step-concludes here)
+  pub step-plans : {i : Instr} → ReadsAs p e m (Ok i) → (step_of p e m).outcome ≡ outcome_of (plan_of e m i)
+  step-plans here = ap (λ (r : Ending). r.outcome) (step-concludes here)
 
   module _ (sized : Sized e m) where
     planned-first : (i : Instr)
@@ -384,19 +382,19 @@ module _ (p : List ℕ) (e : Env) (m : Machine) where
         m.ctl.mark m.ctl.on
 
     -- it reads as nothing else
-    other : {r : Read} (s : Read) → ReadsAs p e m r → Not (r ≡ s) → Not (ReadsAs p e m s)
+    other : {r : Result Instr Unread} (s : Result Instr Unread) → ReadsAs p e m r → Not (r ≡ s) → Not (ReadsAs p e m s)
     other s here n t = n (one-reading here t)
 
-    decided-first : (r : Read) → ReadsAs p e m r → First (read_stops p e m) (outcome_number (decided r e m).outcome)
-    decided-first (read.Not Unassigned) here = given here
-    decided-first (read.Not LeftOut) here = passed (other (read.Not Unassigned) here (λ q. differ (cc))) (given here)
-    decided-first (read.Not Other) here =
-        passed (other (read.Not Unassigned) here (λ q. differ (cc)))
-        (passed (other (read.Not LeftOut) here (λ q. differ (cc))) (given here))
-    decided-first (read.Instr i) here =
-        passed (other (read.Not Unassigned) here (λ q. differ (cc)))
-        (passed (other (read.Not LeftOut) here (λ q. differ (cc)))
-        (passed (other (read.Not Other) here (λ q. differ (cc)))
+    decided-first : (r : Result Instr Unread) → ReadsAs p e m r → First (read_stops p e m) (outcome_number (decided r e m).outcome)
+    decided-first (Err Unassigned) here = given here
+    decided-first (Err LeftOut) here = passed (other (Err Unassigned) here (λ q. differ (cc))) (given here)
+    decided-first (Err Other) here =
+        passed (other (Err Unassigned) here (λ q. differ (cc)))
+        (passed (other (Err LeftOut) here (λ q. differ (cc))) (given here))
+    decided-first (Ok i) here =
+        passed (other (Err Unassigned) here (λ q. differ (cc)))
+        (passed (other (Err LeftOut) here (λ q. differ (cc)))
+        (passed (other (Err Other) here (λ q. differ (cc)))
         (swapped (does i here) (done i here)
         (swapped (does i here) (done i here)
         (swapped (does i here) (done i here)
@@ -404,7 +402,7 @@ module _ (p : List ℕ) (e : Env) (m : Machine) where
         (planned-first i))))
 
     counter-first : (b : Bool) → Reflects b (Some (StandsAt p e m))
-        → First (stops p e m) (outcome_number (attempted (cond b (Word w) NoWord) e m).outcome)
+        → First (stops p e m) (outcome_number (attempted (cond b (Some w) None) e m).outcome)
     counter-first true x =
         passed (λ (n : Not (Some (StandsAt p e m))). n (x.yes refl)) (decided-first (read_of w) (reads (x.yes refl)))
     counter-first false x = given (x.no refl)

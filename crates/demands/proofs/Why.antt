@@ -7,21 +7,16 @@ use Prim.Native.Nat.{ℕ, ◌*◌, ◌<◌}
 use native.Mathlib.Omega.{arith}
 use Rattle.isa.specs.declared.Instr.{Instr}
 use Rattle.isa.specs.declared.Memory.{Memory}
-use Rattle.isa.specs.declared.Read.{Read}
+use Rattle.std.specs.Prelude.{Ok, Err, Result, ⊤}
+use Rattle.isa.specs.declared.Unread.{Unread}
 use Rattle.isa.specs.declared.Unread.TheVariants.{Unassigned, LeftOut, Other}
 use Rattle.state.specs.declared.setup.Refusal.{Refusal}
-use Rattle.state.specs.declared.setup.Setup.{Setup}
-use Rattle.state.specs.declared.setup.Setup.TheVariants.{Accepted, Refused}
 use Rattle.state.specs.declared.stops.Stop.{Stop}
 use Rattle.state.specs.declared.stops.Stop.TheVariants as stop
 use Rattle.state.specs.Machine.{Env, Machine}
 use Rattle.state.specs.Numbers.{refusal_number}
 use Rattle.state.specs.Setup.{refusal}
 use Rattle.machine.specs.declared.run.Reason.{Reason}
-use Rattle.machine.specs.declared.step.Answer.{Answer}
-use Rattle.machine.specs.declared.step.Answer.TheVariants.{Ran}
-use Rattle.machine.specs.declared.step.Outcome.{Outcome}
-use Rattle.machine.specs.declared.step.Outcome.TheVariants.{Finished, Stopped}
 use Rattle.machine.specs.declared.why.Cause.{Cause}
 use Rattle.machine.specs.Numbers.{outcome_number, outcome_missing, outcome_carried, answer_number, answer_missing}
 use Rattle.machine.specs.Numbers.{answer_carried, reason_number, reason_carried, reason_missing}
@@ -49,12 +44,12 @@ use Rattle.demands.proofs.Rows.{says, One, one-first, one-said, said-first}
 use Rattle.demands.proofs.TrapBits.{arming-is, one-bits}
 
 -- no stop has the number of a refusal
-not-refusal : (o : Outcome) (k : ℕ) → 0 < k → k < 11 → k ≡ outcome_number o → ⊥
-not-refusal Finished k l u h = omega arith
-not-refusal (Stopped s) k l u h = omega (arith, (stop-between s).0)
+not-refusal : (o : Result ⊤ Stop) (k : ℕ) → 0 < k → k < 11 → k ≡ outcome_number o → ⊥
+not-refusal (Ok tt) k l u h = omega arith
+not-refusal (Err s) k l u h = omega (arith, (stop-between s).0)
 
 module _ (p : List ℕ) (e : Env) (m : Machine) where
-  abbrev end : Outcome
+  abbrev end : Result ⊤ Stop
   end = (step_of p e m).outcome
 
   abbrev cause : Cause
@@ -65,26 +60,26 @@ module _ (p : List ℕ) (e : Env) (m : Machine) where
   abbrev IsBehind : Cause → Row → Type 0
   IsBehind y r = r.number ≡ answer_number y.answer → r.applies → r.behind y.word y.fact
 
-  stands_at : {r : Read} → ReadsAs p e m r → Some (StandsAt p e m)
+  stands_at : {r : Result Instr Unread} → ReadsAs p e m r → Some (StandsAt p e m)
   stands_at r = record { number = r.number; holds = r.holds.0 }
 
   does_at : {f : Instr → Type 0} → Does p e m f → Some (StandsAt p e m)
   does_at d = stands_at d.reads
 
   -- what stands behind 12 to 19, of the stop s
-  behind : (f : ℕ → ℕ → Type 0) (s : Stop) → end ≡ Stopped s → stop_word (word p e m) s ≡ word p e m
+  behind : (f : ℕ → ℕ → Type 0) (s : Stop) → end ≡ Err s → stop_word (word p e m) s ≡ word p e m
       → Some (StandsAt p e m) → f (word p e m) (stop_fact m.ctl.pc (word p e m) s)
       → Behind p e m f cause.word cause.fact
   behind f s i is here h = rw (i, is) (word-is p e m here, h)
 
-  own : (s : Stop) → end ≡ Stopped s → stop_word (word p e m) s ≡ word p e m
+  own : (s : Stop) → end ≡ Err s → stop_word (word p e m) s ≡ word p e m
       → stop_fact m.ctl.pc (word p e m) s ≡ word p e m → Some (StandsAt p e m)
       → Behind p e m (λ w x. x ≡ w) cause.word cause.fact
   own s i is fact here = behind (λ w x. x ≡ w) s i is here fact
 
-  answers : (o : Outcome) → (cause_of m.ctl.pc (word p e m) o).answer ≡ Ran o
-  answers Finished = refl
-  answers (Stopped s) = refl
+  answers : (o : Result ⊤ Stop) → (cause_of m.ctl.pc (word p e m) o).answer ≡ Ok o
+  answers (Ok tt) = refl
+  answers (Err s) = refl
 
   number_is : answer_number cause.answer ≡ outcome_number end
   number_is = ap answer_number (answers end)
@@ -93,7 +88,7 @@ module _ (p : List ℕ) (e : Env) (m : Machine) where
   by : {k : ℕ} → k ≡ answer_number cause.answer → outcome_number end ≡ k
   by h = sym (h ∙ number_is)
 
-  each-stop : refusal p e m ≡ Accepted → Each (IsBehind cause) (stops p e m)
+  each-stop : refusal p e m ≡ Ok tt → Each (IsBehind cause) (stops p e m)
   each-stop ok =
       (λ h n. eleven (by h))
       & (λ h a. own (stop.Unread Unassigned) (outcome-is end 12 (by h)) refl refl (stands_at a))
@@ -150,14 +145,14 @@ module _ (p : List ℕ) (e : Env) (m : Machine) where
 
   -- ---- both tables
 
-  abbrev pub told : Setup → Cause
+  abbrev pub told : Result ⊤ Refusal → Cause
   told q = unless_refused q (next_of p e m)
 
   -- the answer is the step's
-  pub same_answer : (q : Setup) → (told q).answer ≡ (whole q (step_of p e m) m).answer
+  pub same_answer : (q : Result ⊤ Refusal) → (told q).answer ≡ (whole q (step_of p e m) m).answer
   unfolding next_of
-  same_answer Accepted = answers end
-  same_answer (Refused r) = refl
+  same_answer (Ok tt) = answers end
+  same_answer (Err r) = refl
 
   -- the number of a refusal is that of no stop
   not-stop : (r : Refusal) (n : ℕ) → n ≡ refusal_number r → (f : Row → Type 0)
@@ -177,9 +172,9 @@ module _ (p : List ℕ) (e : Env) (m : Machine) where
       past : (k : ℕ) → 10 < k → {A : Type 0} → k ≡ n → A
       past k l h = absurd (omega (arith, (refusal-between r).1))
 
-  each_row : (q : Setup) → refusal p e m ≡ q → Each (IsBehind (told q)) (limits p e m ++ stops p e m)
+  each_row : (q : Result ⊤ Refusal) → refusal p e m ≡ q → Each (IsBehind (told q)) (limits p e m ++ stops p e m)
   unfolding next_of
-  each_row Accepted ok = each_append limit (each-stop ok)
+  each_row (Ok tt) ok = each_append limit (each-stop ok)
     where
       none : {A : Type 0} (k : ℕ) → 0 < k → k < 11 → k ≡ answer_number cause.answer → A
       none k l u h = absurd (not-refusal end k l u (h ∙ number_is))
@@ -192,17 +187,17 @@ module _ (p : List ℕ) (e : Env) (m : Machine) where
           & (λ h a. none 4 (omega arith) (omega arith) h)
           & (λ h a. none 5 (omega arith) (omega arith) h)
           & all
-  each_row (Refused r) ok =
+  each_row (Err r) ok =
       each_append ((λ h a. zeros) & (λ h a. zeros) & (λ h a. zeros) & (λ h a. zeros) & (λ h a. zeros) & all)
       (not-stop r (refusal_number r) refl (λ row. row.applies → row.behind 0 0))
     where
       zeros : (◌≡◌ {A = ℕ} 0 0) × (◌≡◌ {A = ℕ} 0 0)
       zeros = (refl, refl)
 
-  none-zero : (q : Setup) → answer_number (told q).answer ≡ 0 → ((told q).word ≡ 0) × ((told q).fact ≡ 0)
+  none-zero : (q : Result ⊤ Refusal) → answer_number (told q).answer ≡ 0 → ((told q).word ≡ 0) × ((told q).fact ≡ 0)
   unfolding next_of
-  none-zero Accepted h = rw (outcome-is end 0 (sym number_is ∙ h)) (refl, refl)
-  none-zero (Refused r) h = (refl, refl)
+  none-zero (Ok tt) h = rw (outcome-is end 0 (sym number_is ∙ h)) (refl, refl)
+  none-zero (Err r) h = (refl, refl)
 
   pub whole_says : Says (limits p e m ++ stops p e m) (answer_number (why_of p e m).answer) (why_of p e m).word
       (why_of p e m).fact
@@ -217,10 +212,10 @@ pub fact-missing : (p : List ℕ) (e : Env) (m : Machine) → answer_number (why
 unfolding next_of
 fact-missing p e m = go (refusal p e m)
   where
-    go : (q : Setup) → answer_number (told p e m q).answer ≡ 17
+    go : (q : Result ⊤ Refusal) → answer_number (told p e m q).answer ≡ 17
         → (told p e m q).fact ≡ answer_missing (whole q (step_of p e m) m).answer
-    go Accepted h = rw (outcome-is (step_of p e m).outcome 17 (sym (number_is p e m) ∙ h))
-    go (Refused r) h = absurd (omega (arith, (refusal-between r).1))
+    go (Ok tt) h = rw (outcome-is (step_of p e m).outcome 17 (sym (number_is p e m) ∙ h))
+    go (Err r) h = absurd (omega (arith, (refusal-between r).1))
 
 pub why-says : WhySays
 why-says p e m y i = rw (why-is i) (whole_says p e m)
@@ -258,7 +253,7 @@ module _ (p : List ℕ) (e : Env) (m : Machine) where
   own-one : (w v x y : ℕ) → Behind p e m (λ w x. x ≡ w) w x → Behind p e m (λ w x. x ≡ w) v y → (w ≡ v) × (x ≡ y)
   own-one = one-behind (λ w x. x ≡ w) (λ w v x y h a b. a ∙ h ∙ sym b)
 
-  each-one : refusal p e m ≡ Accepted → Each One (limits p e m ++ stops p e m)
+  each-one : refusal p e m ≡ Ok tt → Each One (limits p e m ++ stops p e m)
   each-one ok =
       each_append (equal & equal & equal & equal & equal & all)
       (equal
@@ -275,10 +270,10 @@ module _ (p : List ℕ) (e : Env) (m : Machine) where
       & all)
 
   -- of a refused set-up the first row is a limit, and nothing stands behind it
-  each-given : (q : Setup) → refusal p e m ≡ q → (n : ℕ) → n ≡ answer_number (whole q (step_of p e m) m).answer
+  each-given : (q : Result ⊤ Refusal) → refusal p e m ≡ q → (n : ℕ) → n ≡ answer_number (whole q (step_of p e m) m).answer
       → Each (λ r. r.number ≡ n → One r) (limits p e m ++ stops p e m)
-  each-given Accepted ok n h = each_map (λ r one h. one) (each-one ok)
-  each-given (Refused r) ok n h =
+  each-given (Ok tt) ok n h = each_map (λ r one h. one) (each-one ok)
+  each-given (Err r) ok n h =
       each_append ((λ k. equal) & (λ k. equal) & (λ k. equal) & (λ k. equal) & (λ k. equal) & all)
       (not-stop p e m r n h One)
 
@@ -297,9 +292,9 @@ goes_none p e m g = rw (g.accepted, g.finished)
 none-goes : (p : List ℕ) (e : Env) (m : Machine) → answer_number (whole_step p e m).answer ≡ 0 → Goes p e m
 none-goes p e m = go (refusal p e m) refl
   where
-    go : (q : Setup) → refusal p e m ≡ q → answer_number (whole q (step_of p e m) m).answer ≡ 0 → Goes p e m
-    go Accepted ok h = record { accepted = ok; finished = outcome-is (step_of p e m).outcome 0 h }
-    go (Refused r) ok h = absurd (omega (arith, (refusal-between r).0))
+    go : (q : Result ⊤ Refusal) → refusal p e m ≡ q → answer_number (whole q (step_of p e m) m).answer ≡ 0 → Goes p e m
+    go (Ok tt) ok h = record { accepted = ok; finished = outcome-is (step_of p e m).outcome 0 h }
+    go (Err r) ok h = absurd (omega (arith, (refusal-between r).0))
 
 pub why-goes : WhyGoes
 why-goes p e m y i =
@@ -310,7 +305,7 @@ why-goes p e m y i =
 -- ---- after a run
 
 -- what a run that did not spend its budget has in common with a step's answer
-pub record Likewise (r : Reason) (a : Answer) : Type 0 where
+pub record Likewise (r : Reason) (a : Result (Result ⊤ Stop) Refusal) : Type 0 where
   pub number : answer_number a ≡ reason_number r
   pub carried : answer_carried a ≡ reason_carried r
   pub missing : answer_missing a ≡ reason_missing r
@@ -321,17 +316,17 @@ pub ends-likewise : (p : List ℕ) (e : Env) (budget : ℕ) (m : Machine)
     → Likewise (whole_run p e budget m).reason (whole_step p e (whole_run p e budget m).after).answer
 ends-likewise p e budget m = go (refusal p e m) refl
   where
-    by-why : (count : ℕ) (n : Machine) (r : Reason) → refusal p e n ≡ Accepted → Why p e budget count n r
+    by-why : (count : ℕ) (n : Machine) (r : Reason) → refusal p e n ≡ Ok tt → Why p e budget count n r
         → Not (reason_number r ≡ 20) → Likewise r (whole_step p e n).answer
     by-why count n r ok (spent l) h = absurd (h refl)
     by-why count n r ok (stopped s l stop) h = rw (ok, stop) (record { number = refl; carried = refl; missing = refl })
 
-    go : (q : Setup) → refusal p e m ≡ q → Not (reason_number (whole_run p e budget m).reason ≡ 20)
+    go : (q : Result ⊤ Refusal) → refusal p e m ≡ q → Not (reason_number (whole_run p e budget m).reason ≡ 20)
         → Likewise (whole_run p e budget m).reason (whole_step p e (whole_run p e budget m).after).answer
-    go Accepted ok h =
+    go (Ok tt) ok h =
         let ends = accepted-run p e budget m ok in
         by-why _ _ _ (steps-accepted p e _ m _ ends.steps ok) ends.why h
-    go (Refused r) refuses h =
+    go (Err r) refuses h =
         rw (refused-run p e budget m r refuses, refuses) (record { number = refl; carried = refl; missing = refl })
 
 pub why-after-run : WhyAfterRun

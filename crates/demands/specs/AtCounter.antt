@@ -1,15 +1,14 @@
 -- The words in which the rows of the stops are put: what stands at the program counter, what it reads as, which address
 -- a load or store asks for and whether a window holds it, which value a CTCMSA has and which of its bits arm a trap.
 -- Nothing here is the machine's own (`Tables`).
-use Rattle.std.specs.Prelude.{◌≡◌, cond, ◌⊎◌, List, ℕ, ◌+◌, ◌-◌, ◌*◌, ◌/◌, ◌%◌, ◌^◌, ◌≤◌, ◌<◌, ltb, length}
+use Rattle.std.specs.Prelude.{◌≡◌, cond, ◌⊎◌, List, ℕ, ◌+◌, ◌-◌, ◌*◌, ◌/◌, ◌%◌, ◌^◌, ◌≤◌, ◌<◌, ltb, length, Ok, Result}
 use Rattle.isa.specs.declared.Creg.{Creg}
 use Rattle.isa.specs.declared.Greg.{Greg}
 use Rattle.isa.specs.declared.Instr.{Instr}
 use Rattle.isa.specs.declared.Instr.TheVariants as instr
 use Rattle.isa.specs.declared.Memory.{Memory}
 use Rattle.isa.specs.declared.Op.{Op}
-use Rattle.isa.specs.declared.Read.{Read}
-use Rattle.isa.specs.declared.Read.TheVariants as read
+use Rattle.isa.specs.declared.Unread.{Unread}
 use Rattle.isa.specs.declared.Vreg.{Vreg}
 use Rattle.isa.specs.declared.Width.{Width}
 use Rattle.isa.specs.declared.Width.TheVariants.{B, H, W, D}
@@ -104,7 +103,7 @@ abbrev pub StandsAt : List ℕ → Env → Machine → ℕ → Type 0
 StandsAt p e m i = AtWord p e.board.program m.ctl.pc i
 
 -- the word at the counter reads as r
-abbrev pub ReadsAs : List ℕ → Env → Machine → Read → Type 0
+abbrev pub ReadsAs : List ℕ → Env → Machine → Result Instr Unread → Type 0
 ReadsAs p e m r = Some (λ i. StandsAt p e m i × (read_of (little p (4 * i) 4) ≡ r))
 
 -- the word at the counter is w
@@ -114,5 +113,5 @@ IsWord p e m w = Some (λ i. StandsAt p e m i × (w ≡ little p (4 * i) 4))
 -- the word at the counter reads as an instruction of which f holds
 pub record Does (p : List ℕ) (e : Env) (m : Machine) (f : Instr → Type 0) : Type 0 where
   pub instruction : Instr
-  pub reads : ReadsAs p e m (read.Instr instruction)
+  pub reads : ReadsAs p e m (Ok instruction)
   pub holds : f instruction

@@ -1,11 +1,9 @@
 -- Request 7/12: in little-endian order a step is what it was before the request. These are the lines of load and store
 -- of that time; every other line of the plan is the one of today.
-use Rattle.std.specs.Prelude.{◌≡◌, List, ℕ, length}
+use Rattle.std.specs.Prelude.{◌≡◌, List, ℕ, length, Ok, Err, Some, None, Result, Option}
 use Rattle.isa.specs.declared.Instr.{Instr}
 use Rattle.isa.specs.declared.Memory.{Memory}
 use Rattle.isa.specs.declared.Memory.TheVariants.{Ld, St}
-use Rattle.isa.specs.declared.Read.{Read}
-use Rattle.isa.specs.declared.Read.TheVariants as read
 use Rattle.isa.specs.declared.Vreg.{Vreg}
 use Rattle.isa.specs.declared.Width.{Width}
 use Rattle.memory.specs.Bytes.{part, number}
@@ -16,15 +14,13 @@ use Rattle.plan.specs.declared.Plan.{Plan}
 use Rattle.plan.specs.declared.Plan.TheVariants as plan
 use Rattle.plan.specs.Plan.{executed_by, writes, kind_of, early, unless}
 use Rattle.reading.specs.Reading.{read_of}
-use Rattle.state.specs.declared.fetch.Fetched.{Fetched}
-use Rattle.state.specs.declared.fetch.Fetched.TheVariants as fetch
 use Rattle.state.specs.declared.stops.Stop.TheVariants.{NoWord, Unread, NoWindow, ReadOnly}
 use Rattle.state.specs.declared.windows.Spot.{Spot}
 use Rattle.state.specs.declared.windows.Spot.TheVariants.{Table, Work, Outside}
 use Rattle.state.specs.Fetch.{fetched}
 use Rattle.state.specs.Machine.{Env, Machine}
 use Rattle.state.specs.Windows.{spot_of}
-use Rattle.machine.specs.Step.{Result, stops, concluded, step_of}
+use Rattle.machine.specs.Step.{Ending, stops, concluded, step_of}
 
 abbrev pub loaded_before : Spot → Vreg → List ℕ → List ℕ → Plan
 loaded_before (Table i) wd table work = writes wd (number (part table i 16))
@@ -46,15 +42,15 @@ abbrev pub plan_before : Env → Machine → Instr → Plan
 plan_before e m i =
     unless (early (kind_of i) m.ctl.mark m.ctl.on) (executed_by (accessed_before e m) m i)
 
-abbrev pub decided_before : Read → Env → Machine → Result
-decided_before (read.Not u) e m = stops (Unread u) m
-decided_before (read.Instr i) e m = concluded e.board.work (plan_before e m i) m
+abbrev pub decided_before : Result Instr Unread → Env → Machine → Ending
+decided_before (Err u) e m = stops (Unread u) m
+decided_before (Ok i) e m = concluded e.board.work (plan_before e m i) m
 
-abbrev pub attempted_before : Fetched → Env → Machine → Result
-attempted_before (fetch.Word w) e m = decided_before (read_of w) e m
-attempted_before fetch.NoWord e m = stops NoWord m
+abbrev pub attempted_before : Option ℕ → Env → Machine → Ending
+attempted_before (Some w) e m = decided_before (read_of w) e m
+attempted_before None e m = stops NoWord m
 
-abbrev pub step_before : List ℕ → Env → Machine → Result
+abbrev pub step_before : List ℕ → Env → Machine → Ending
 step_before p e m = attempted_before (fetched p e.board.program m.ctl.pc) e m
 
 abbrev pub LittleStep : Type 0

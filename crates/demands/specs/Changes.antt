@@ -1,11 +1,9 @@
 -- What a finished step leaves as it was (request 8/12): beyond the control block every byte, but for those of the one
 -- register that the instruction names as destination, or for the sixteen of its store.
-use Rattle.std.specs.Prelude.{◌≡◌, List, ℕ, ◌+◌, ◌*◌, ◌≤◌, ◌<◌, length, get_or}
+use Rattle.std.specs.Prelude.{◌≡◌, List, ℕ, ◌+◌, ◌*◌, ◌≤◌, ◌<◌, length, get_or, Ok}
 use Rattle.isa.specs.declared.Greg.{Greg}
 use Rattle.isa.specs.declared.Vreg.{Vreg}
 use Rattle.state.specs.Machine.{Env, Machine}
-use Rattle.machine.specs.declared.step.Answer.TheVariants.{Ran}
-use Rattle.machine.specs.declared.step.Outcome.TheVariants.{Finished}
 use Rattle.machine.specs.Step.{whole_step}
 use Rattle.demands.specs.AtCounter.{InWork, Does}
 use Rattle.demands.specs.Destination.{Access, first_of, Destination, in_vector, in_general, in_memory, in_control}
@@ -43,5 +41,5 @@ pub record ChangesOnly (d : Destination) (e : Env) (m m' : Machine) : Type 0 whe
 
 abbrev pub ChangesOne : Type 0
 ChangesOne =
-    (p : List ℕ) (e : Env) (m : Machine) → (whole_step p e m).answer ≡ Ran Finished
+    (p : List ℕ) (e : Env) (m : Machine) → (whole_step p e m).answer ≡ Ok (Ok tt)
     → Does p e m (λ i. ChangesOnly (operands_of i).destination e m (whole_step p e m).after)

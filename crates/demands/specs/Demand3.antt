@@ -2,10 +2,9 @@
 -- address of the first, with the same bytes, wherever it begins and however long it is. If the first stopped neither
 -- with 17 nor with 20, the second ends alike, and leaves every added byte alone; and both windows are as long as they
 -- were. That both runs have the same byte order (request 7/12) is asked by the statement's shape: it has one.
-use Rattle.std.specs.Prelude.{◌≡◌, ℕ, ◌+◌, ◌-◌, ◌≤◌, ◌<◌, List, length, get_or}
+use Rattle.std.specs.Prelude.{◌≡◌, ℕ, ◌+◌, ◌-◌, ◌≤◌, ◌<◌, List, length, get_or, Ok}
 use Rattle.order.specs.declared.Order.{Order}
 use Rattle.state.specs.declared.control.Control.{Control}
-use Rattle.state.specs.declared.setup.Setup.TheVariants.{Accepted}
 use Rattle.state.specs.Machine.{Env, env, machine}
 use Rattle.state.specs.Setup.{refusal}
 use Rattle.machine.specs.Numbers.{reason_number}
@@ -40,8 +39,8 @@ Wider =
     (order : Order) (program table : List ℕ) (pb tb b₁ b₂ : ℕ) (v g : List ℕ) (c : Control) (w₁ w₂ : List ℕ) (n₁ n₂ : ℕ)
     → Holds b₁ w₁ b₂ w₂
     → n₁ ≤ n₂
-    → refusal program (placed_env order pb tb b₁ table) (machine v g w₁ c) ≡ Accepted
-    → refusal program (placed_env order pb tb b₂ table) (machine v g w₂ c) ≡ Accepted
+    → refusal program (placed_env order pb tb b₁ table) (machine v g w₁ c) ≡ Ok tt
+    → refusal program (placed_env order pb tb b₂ table) (machine v g w₂ c) ≡ Ok tt
     → (reason_number (whole_run program (placed_env order pb tb b₁ table) n₁ (machine v g w₁ c)).reason ≡ 17 → ⊥)
     → (reason_number (whole_run program (placed_env order pb tb b₁ table) n₁ (machine v g w₁ c)).reason ≡ 20 → ⊥)
     → EndsAlike b₁ (length w₁) b₂ w₂

@@ -2,10 +2,9 @@
 -- these, and have little else in common. Both finish ADDV.B, and then agree in byte 4 of its destination and in no
 -- other: so `LanesApart` speaks of machines that there are. Both finish SHF.B, which puts its neighbour there, and no
 -- longer agree in byte 4: a permute's elements do touch. So do the bytes of HADD_S.H, whose elements are halfwords.
-use Rattle.std.specs.Prelude.{◌≡◌, Bool, true, List, [], ◌∷◌, ◌++◌, ℕ, zero, suc, ◌+◌, ◌/◌, ◌%◌, eqb, replicate}
+use Rattle.std.specs.Prelude.{◌≡◌, Bool, true, List, [], ◌∷◌, ◌++◌, ℕ, zero, suc, ◌+◌, ◌/◌, ◌%◌, eqb, replicate, Ok}
 use Rattle.isa.specs.declared.Instr.{Instr}
 use Rattle.isa.specs.declared.Instr.TheVariants as instr
-use Rattle.isa.specs.declared.Read.TheVariants as read
 use Rattle.isa.specs.declared.Vreg.{Vreg}
 use Rattle.isa.specs.declared.Width.TheVariants.{B, H}
 use Rattle.ops.specs.Places as place
@@ -79,7 +78,7 @@ AgreeIn j v v' r = agreeing v v' r 0 16 ≡ alone j 0 16
 
 -- both finish the word w, and then agree in byte j of $w5 alone
 pub record Worked (w : ℕ) (instruction : Instr) (j : ℕ) : Type 0 where
-  pub reads : read_of w ≡ read.Instr instruction
+  pub reads : read_of w ≡ Ok instruction
   pub loudly : Finishes w (loud_program w) loud_env loud
   pub quietly : Finishes w (quiet_program w) quiet_env quiet
   pub ws : AgreeIn 4 loud.vec quiet.vec ($w 1)

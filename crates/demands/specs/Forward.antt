@@ -2,17 +2,14 @@
 -- run from word i with a clear slot mark stops by itself after at most n - i finished instructions, so budget n - i + 1
 -- never answers 20. Nothing else is asked: words may read as no instruction, the switch may be off, the program may end
 -- at 2^64 and a target lie beyond. (An offset of 0 is too little: `Laps`.)
-use Rattle.std.specs.Prelude.{◌≡◌, List, ℕ, ◌+◌, ◌-◌, ◌*◌, ◌/◌, ◌^◌, ◌≤◌, ◌<◌, length}
+use Rattle.std.specs.Prelude.{◌≡◌, List, ℕ, ◌+◌, ◌-◌, ◌*◌, ◌/◌, ◌^◌, ◌≤◌, ◌<◌, length, Ok, Err}
 use Rattle.isa.specs.declared.Instr.{Instr}
-use Rattle.isa.specs.declared.Read.TheVariants as read
 use Rattle.reading.specs.Reading.{read_of}
 use Rattle.state.specs.declared.control.Mark.TheVariants.{Clear}
-use Rattle.state.specs.declared.setup.Setup.TheVariants.{Accepted}
 use Rattle.state.specs.declared.stops.Stop.{Stop}
 use Rattle.state.specs.Machine.{Env, Machine}
 use Rattle.state.specs.Setup.{refusal}
 use Rattle.machine.specs.declared.run.Reason.TheVariants.{Spent}
-use Rattle.machine.specs.declared.step.Outcome.TheVariants.{Stopped}
 use Rattle.machine.specs.Run.{Run, whole_run}
 use Rattle.machine.specs.Step.{step_of}
 use Rattle.demands.specs.AtCounter.{IsBranch, offset_of, StandsAt}
@@ -30,12 +27,12 @@ AtLeastOne offset = (1 ≤ offset) × (offset < 2 ^ 15)
 -- every branch in a program has such an offset
 abbrev pub Forward : List ℕ → Type 0
 Forward p =
-    (i : ℕ) (x : Instr) → i < words p → read_of (little p (4 * i) 4) ≡ read.Instr x
+    (i : ℕ) (x : Instr) → i < words p → read_of (little p (4 * i) 4) ≡ Ok x
     → (b : IsBranch x) → AtLeastOne (offset_of b)
 
 -- an accepted machine at word i, with a clear slot mark
 pub record Starts (p : List ℕ) (e : Env) (m : Machine) (i : ℕ) : Type 0 where
-  pub ok : refusal p e m ≡ Accepted
+  pub ok : refusal p e m ≡ Ok tt
   pub at : StandsAt p e m i
   pub clear : m.ctl.mark ≡ Clear
 
@@ -53,7 +50,7 @@ pub record StopsWithin (p : List ℕ) (e : Env) (m : Machine) (n : ℕ) : Type 0
   pub after : Machine
   pub steps : Steps p e count m after
   pub stop : Stop
-  pub stops : (step_of p e after).outcome ≡ Stopped stop
+  pub stops : (step_of p e after).outcome ≡ Err stop
 
 abbrev pub ForwardStops : Type 0
 ForwardStops =

@@ -1,9 +1,8 @@
 -- The instructions whose lanes cannot touch, and what an element is for each (request 8/12): all of the manual's Tables
 -- 4.1, 4.2 and 4.7, and the compares of Table 4.8. A line is a row of the table as the manual prints it.
-use Rattle.std.specs.Prelude.{◌≡◌, Bool, true, false, cond, List, [], ◌∷◌, ◌++◌, ◌⊎◌, ℕ}
+use Rattle.std.specs.Prelude.{◌≡◌, Bool, true, false, cond, List, [], ◌∷◌, ◌++◌, ◌⊎◌, ℕ, Ok}
 use Prim.Native.String.{String}
 use Rattle.isa.specs.declared.Instr.{Instr}
-use Rattle.isa.specs.declared.Read.TheVariants as read
 use Rattle.isa.specs.Widths.{bits}
 use Rattle.ops.specs.Names.{same}
 use Rattle.ops.specs.Table.{mnemonic}
@@ -143,5 +142,5 @@ ElementBits i n = HasBits (element_at (shown_of i).name) (shown_of i).form n
 -- no instruction is forgotten: one that a word reads as has an element, or is of the other tables
 abbrev pub EachListed : Type 0
 EachListed =
-    (w : ℕ) (i : Instr) → read_of w ≡ read.Instr i
+    (w : ℕ) (i : Instr) → read_of w ≡ Ok i
     → Some (ElementBits i) ⊎ (listed (mnemonic (shown_of i).name) others ≡ true)

@@ -1,20 +1,16 @@
 -- What holds of each lane of a destination after a finished step: of the machine before the step, the lane's number and
 -- the lane after it.
-use Rattle.std.specs.Prelude.{◌≡◌, List, ℕ, ◌/◌, ◌<◌}
+use Rattle.std.specs.Prelude.{◌≡◌, List, ℕ, ◌/◌, ◌<◌, Ok, Some}
 use Rattle.isa.specs.declared.Instr.{Instr}
-use Rattle.isa.specs.declared.Read.TheVariants as read
 use Rattle.isa.specs.declared.Vreg.{Vreg}
 use Rattle.isa.specs.declared.Width.{Width}
 use Rattle.isa.specs.Widths.{bits}
 use Rattle.memory.specs.File.{register_at}
 use Rattle.reading.specs.Reading.{read_of}
-use Rattle.state.specs.declared.fetch.Fetched.TheVariants.{Word}
-use Rattle.state.specs.declared.setup.Setup.TheVariants.{Accepted}
 use Rattle.state.specs.Fetch.{fetched}
 use Rattle.state.specs.Machine.{Env, Machine}
 use Rattle.state.specs.Setup.{refusal}
 use Rattle.vectors.specs.Register.{element}
-use Rattle.machine.specs.declared.step.Outcome.TheVariants.{Finished}
 use Rattle.machine.specs.Step.{step_of}
 
 -- element i of a register
@@ -24,10 +20,10 @@ lane_at df file r i = element (bits df) (register_at file r) i
 abbrev pub EachLane : Instr → Width → Vreg → (Machine → ℕ → ℕ → Type 0) → Type 0
 EachLane instruction df wd P =
     (p : List ℕ) (e : Env) (m : Machine) (w : ℕ)
-    → refusal p e m ≡ Accepted
-    → fetched p e.board.program m.ctl.pc ≡ Word w
-    → read_of w ≡ read.Instr instruction
-    → (step_of p e m).outcome ≡ Finished
+    → refusal p e m ≡ Ok tt
+    → fetched p e.board.program m.ctl.pc ≡ Some w
+    → read_of w ≡ Ok instruction
+    → (step_of p e m).outcome ≡ Ok tt
     → (i : ℕ)
     → i < 128 / bits df
     → P m i (lane_at df (step_of p e m).after.vec wd i)

@@ -2,15 +2,12 @@
 -- counters, that both finish the same word, one of an instruction of `LaneTables`. If they agree in element i of the
 -- vector registers that the instruction names, as source and as old destination, they agree in element i of the
 -- destination after the step, whatever the other elements and the other registers were.
-use Rattle.std.specs.Prelude.{◌≡◌, List, [], ◌∷◌, ℕ, zero, suc, ◌+◌, ◌*◌, ◌/◌, ◌%◌, ◌^◌, ◌<◌, get_or}
+use Rattle.std.specs.Prelude.{◌≡◌, List, [], ◌∷◌, ℕ, zero, suc, ◌+◌, ◌*◌, ◌/◌, ◌%◌, ◌^◌, ◌<◌, get_or, Ok}
 use Rattle.isa.specs.declared.Instr.{Instr}
-use Rattle.isa.specs.declared.Read.TheVariants as read
 use Rattle.isa.specs.declared.Vreg.{Vreg}
 use Rattle.memory.specs.Bytes.{AreBytes}
 use Rattle.reading.specs.Reading.{read_of}
 use Rattle.state.specs.Machine.{Env, Machine}
-use Rattle.machine.specs.declared.step.Answer.TheVariants.{Ran}
-use Rattle.machine.specs.declared.step.Outcome.TheVariants.{Finished}
 use Rattle.machine.specs.Step.{whole_step}
 use Rattle.demands.specs.AtCounter.{IsWord}
 use Rattle.demands.specs.Destination.{in_vector, operands_of}
@@ -42,7 +39,7 @@ Agree n i v v' (r ∷ rs) = (element_in v r n i ≡ element_in v' r n i) × Agre
 pub record Finishes (w : ℕ) (p : List ℕ) (e : Env) (m : Machine) : Type 0 where
   pub word : IsWord p e m w
   pub bytes : AreBytes m.vec
-  pub finished : (whole_step p e m).answer ≡ Ran Finished
+  pub finished : (whole_step p e m).answer ≡ Ok (Ok tt)
 
 -- elements of n bits cannot touch in the word w, which reads as this instruction
 pub record Apart (w : ℕ) (instruction : Instr) (n : ℕ) : Type 0 where
@@ -55,5 +52,5 @@ pub record Apart (w : ℕ) (instruction : Instr) (n : ℕ) : Type 0 where
 
 abbrev pub LanesApart : Type 0
 LanesApart =
-    (w : ℕ) (instruction : Instr) → read_of w ≡ read.Instr instruction
+    (w : ℕ) (instruction : Instr) → read_of w ≡ Ok instruction
     → (n : ℕ) → ElementBits instruction n → Apart w instruction n

@@ -1,8 +1,7 @@
 -- Request 3/12: which byte was missing. With 17 a step or a run names the first of the sixteen addresses of the load
 -- or store, counted upward modulo 2^64, that does not lie in the window holding the first byte, or the first address
 -- itself if no window holds it. With every other number it names 0.
-use Rattle.std.specs.Prelude.{◌≡◌, List, ℕ, ◌+◌, ◌%◌, ◌^◌, ◌<◌, length}
-use Rattle.state.specs.declared.setup.Setup.TheVariants.{Accepted}
+use Rattle.std.specs.Prelude.{◌≡◌, List, ℕ, ◌+◌, ◌%◌, ◌^◌, ◌<◌, length, Ok}
 use Rattle.state.specs.Machine.{Env, Machine, machine}
 use Rattle.state.specs.Setup.{refusal}
 use Rattle.machine.specs.declared.run.Ended.{Ended}
@@ -41,7 +40,7 @@ pub record Names (p : List ℕ) (e : Env) (m : Machine) (n x : ℕ) : Type 0 whe
 -- there is one, since windows that are accepted share no address
 abbrev pub OneMissing : Type 0
 OneMissing =
-    (p : List ℕ) (e : Env) (m : Machine) → refusal p e m ≡ Accepted
+    (p : List ℕ) (e : Env) (m : Machine) → refusal p e m ≡ Ok tt
     → (n x y : ℕ) → Names p e m n x → Names p e m n y → x ≡ y
 
 -- `step::step`

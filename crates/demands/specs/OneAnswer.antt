@@ -1,10 +1,9 @@
 -- One answer: what a public function promises leaves room for one answer, and for one later content of the lent memory.
-use Rattle.std.specs.Prelude.{◌≡◌, List, ℕ}
+use Rattle.std.specs.Prelude.{◌≡◌, List, ℕ, Result, Option, ⊤}
 use Rattle.element.specs.Elements.{Element}
 use Rattle.memory.specs.declared.Register.{Register}
 use Rattle.memory.specs.Value.{Holds}
-use Rattle.state.specs.declared.fetch.Fetched.{Fetched}
-use Rattle.state.specs.declared.setup.Setup.{Setup}
+use Rattle.state.specs.declared.setup.Refusal.{Refusal}
 use Rattle.state.specs.Fetch.{Fetches}
 use Rattle.state.specs.Setup.{Checks}
 use Rattle.machine.specs.declared.run.Ended.{Ended}
@@ -12,13 +11,13 @@ use Rattle.machine.specs.declared.step.Answered.{Answered}
 use Rattle.machine.specs.declared.step.Stepped.{Stepped}
 use Rattle.machine.specs.declared.why.Cause.{Cause}
 use Rattle.machine.specs.Run.{Run, RunIs}
-use Rattle.machine.specs.Step.{Result, StepIs, Whole, WholeIs}
+use Rattle.machine.specs.Step.{Ending, StepIs, Whole, WholeIs}
 use Rattle.machine.specs.Why.{WhyIs}
 
 -- `act::act`, and `advance`, inside a step and a run
 abbrev pub OneAdvance : Type 0
 OneAdvance =
-    (s : Result) (r r' : Stepped) (v v' g g' w w' : List ℕ) → StepIs s r v g w → StepIs s r' v' g' w'
+    (s : Ending) (r r' : Stepped) (v v' g g' w w' : List ℕ) → StepIs s r v g w → StepIs s r' v' g' w'
     → (r ≡ r') × (v ≡ v') × (g ≡ g') × (w ≡ w')
 
 -- `step::step`
@@ -51,7 +50,7 @@ abbrev pub OneRegister : Type 0
 OneRegister = (x : ℕ) (r r' : Register) → Holds r x → Holds r' x → r ≡ r'
 
 abbrev pub OneSetup : Type 0
-OneSetup = (s r r' : Setup) → Checks s r → Checks s r' → r ≡ r'
+OneSetup = (s r r' : Result ⊤ Refusal) → Checks s r → Checks s r' → r ≡ r'
 
 abbrev pub OneFetched : Type 0
-OneFetched = (p : List ℕ) (base pc : ℕ) (r r' : Fetched) → Fetches p base pc r → Fetches p base pc r' → r ≡ r'
+OneFetched = (p : List ℕ) (base pc : ℕ) (r r' : Option ℕ) → Fetches p base pc r → Fetches p base pc r' → r ≡ r'

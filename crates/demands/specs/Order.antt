@@ -1,20 +1,17 @@
 -- Request 7/12, the big-endian board: where each byte of a load and of a store stands. It is said from Table 3.1 of the
 -- manual a second time, with nothing of the machine's own; and a store and then a load give the register back.
-use Rattle.std.specs.Prelude.{◌≡◌, List, ◌⊎◌, ℕ, ◌+◌, ◌-◌, ◌*◌, ◌≤◌, ◌<◌, length, get_or}
+use Rattle.std.specs.Prelude.{◌≡◌, List, ◌⊎◌, ℕ, ◌+◌, ◌-◌, ◌*◌, ◌≤◌, ◌<◌, length, get_or, Ok}
 use Rattle.isa.specs.declared.Instr.TheVariants as instr
 use Rattle.isa.specs.declared.Memory.{Memory}
 use Rattle.isa.specs.declared.Memory.TheVariants.{Ld, St}
 use Rattle.isa.specs.declared.Op.{Op}
-use Rattle.isa.specs.declared.Read.TheVariants as read
 use Rattle.isa.specs.declared.Vreg.{Vreg}
 use Rattle.memory.specs.Bytes.{AreBytes}
 use Rattle.ops.specs.Meaning.{memory_at}
 use Rattle.order.specs.declared.Order.{Order}
 use Rattle.order.specs.declared.Order.TheVariants.{Little, Big}
-use Rattle.state.specs.declared.setup.Setup.TheVariants.{Accepted}
 use Rattle.state.specs.Machine.{Env, Machine}
 use Rattle.state.specs.Setup.{refusal}
-use Rattle.machine.specs.declared.step.Outcome.TheVariants.{Finished}
 use Rattle.machine.specs.Step.{step_of}
 use Rattle.demands.specs.AtCounter.{ReadsAs, element_bytes}
 use Rattle.demands.specs.Destination.{Access, first_of, OfRegister}
@@ -45,8 +42,8 @@ ByteAt base w x b = Inside base (length w) x × (get_or w (x - base) 0 ≡ b)
 pub record Done (o : Memory) (x : Access) (p : List ℕ) (e : Env) (m : Machine) : Type 0 where
   pub op : Op
   pub is : memory_at op.0 ≡ o
-  pub reads : ReadsAs p e m (read.Instr (instr.Memory op x.df x.wd x.s10 x.rs))
-  pub finished : (step_of p e m).outcome ≡ Finished
+  pub reads : ReadsAs p e m (Ok (instr.Memory op x.df x.wd x.s10 x.rs))
+  pub finished : (step_of p e m).outcome ≡ Ok tt
 
 -- the address of a byte of an element; no window passes 2^64, so none of a finished step does
 abbrev pub address_of : Access → Env → Machine → ℕ → ℕ → ℕ
@@ -62,7 +59,7 @@ pub record Loaded (x : Access) (e : Env) (m m' : Machine) (base : ℕ) (w : List
 -- all sixteen from the table, or all from the work window
 abbrev pub LoadsBytes : Type 0
 LoadsBytes =
-    (x : Access) (p : List ℕ) (e : Env) (m : Machine) → refusal p e m ≡ Accepted → AreBytes e.table
+    (x : Access) (p : List ℕ) (e : Env) (m : Machine) → refusal p e m ≡ Ok tt → AreBytes e.table
     → AreBytes m.work → Done Ld x p e m
     → Loaded x e m (step_of p e m).after e.board.table e.table
     ⊎ Loaded x e m (step_of p e m).after e.board.work m.work
@@ -76,13 +73,13 @@ pub record Stored (x : Access) (e : Env) (m m' : Machine) : Type 0 where
 
 abbrev pub StoresBytes : Type 0
 StoresBytes =
-    (x : Access) (p : List ℕ) (e : Env) (m : Machine) → refusal p e m ≡ Accepted → AreBytes m.vec
+    (x : Access) (p : List ℕ) (e : Env) (m : Machine) → refusal p e m ≡ Ok tt → AreBytes m.vec
     → Done St x p e m → Stored x e m (step_of p e m).after
 
 -- a store and then a load, in the same format and at the same address, give the register back, in either order
 abbrev pub GivesBack : Type 0
 GivesBack =
-    (x y : Access) (p : List ℕ) (e : Env) (m : Machine) → refusal p e m ≡ Accepted → AreBytes m.vec
+    (x y : Access) (p : List ℕ) (e : Env) (m : Machine) → refusal p e m ≡ Ok tt → AreBytes m.vec
     → Done St x p e m → Done Ld y p e (step_of p e m).after
     → x.df ≡ y.df → first_of x m ≡ first_of y (step_of p e m).after
     → (b : ℕ) → b < 16

@@ -2,12 +2,10 @@
 -- 6/12; and the answers of step and run by both tables: the number of the first limit that is broken, else, in a run,
 -- 20 where the budget is spent, else that of the first stop that applies; 0 where none does.
 -- (That a stop changes nothing is `StopKeeps` of Demand1.)
-use Rattle.std.specs.Prelude.{◌≡◌, false, cond, List, [], ◌∷◌, ◌++◌, ℕ}
+use Rattle.std.specs.Prelude.{◌≡◌, false, cond, List, [], ◌∷◌, ◌++◌, ℕ, Ok, Err}
 use Rattle.isa.specs.declared.Memory.TheVariants.{St}
-use Rattle.isa.specs.declared.Read.TheVariants as read
 use Rattle.isa.specs.declared.Unread.TheVariants.{Unassigned, LeftOut, Other}
 use Rattle.state.specs.declared.control.Mark.TheVariants.{Clear}
-use Rattle.state.specs.declared.setup.Setup.TheVariants.{Accepted}
 use Rattle.state.specs.Machine.{Env, Machine, machine}
 use Rattle.state.specs.Setup.{refusal}
 use Rattle.machine.specs.declared.run.Ended.{Ended}
@@ -31,9 +29,9 @@ Behind p e m f w x = IsWord p e m w × f w x
 -- that of the store's first byte; of 19 the bits that arm the trap
 abbrev pub read_stops : List ℕ → Env → Machine → List Row
 read_stops p e m =
-    row_with 12 (ReadsAs p e m (read.Not Unassigned)) (Behind p e m (λ w x. x ≡ w))
-    ∷ row_with 13 (ReadsAs p e m (read.Not LeftOut)) (Behind p e m (λ w x. x ≡ w))
-    ∷ row_with 14 (ReadsAs p e m (read.Not Other)) (Behind p e m (λ w x. x ≡ w))
+    row_with 12 (ReadsAs p e m (Err Unassigned)) (Behind p e m (λ w x. x ≡ w))
+    ∷ row_with 13 (ReadsAs p e m (Err LeftOut)) (Behind p e m (λ w x. x ≡ w))
+    ∷ row_with 14 (ReadsAs p e m (Err Other)) (Behind p e m (λ w x. x ≡ w))
     ∷ row_with 15 (Does p e m (λ i. IsBranch i × Not (m.ctl.mark ≡ Clear))) (Behind p e m (λ w x. x ≡ w))
     ∷ row_with 16 (Does p e m (λ i. Not (IgnoresSwitch i) × (m.ctl.on ≡ false)))
     (Behind p e m (λ w x. x ≡ cond m.ctl.on 1 0))
@@ -50,7 +48,7 @@ stops p e m = row_with 11 (Not (Some (StandsAt p e m))) (λ w x. (w ≡ 0) × (x
 
 abbrev pub FirstReason : Type 1
 FirstReason =
-    (p : List ℕ) (e : Env) (m : Machine) → refusal p e m ≡ Accepted
+    (p : List ℕ) (e : Env) (m : Machine) → refusal p e m ≡ Ok tt
     → First (stops p e m) (outcome_number (step_of p e m).outcome)
 
 -- ---- the answers

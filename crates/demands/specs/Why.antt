@@ -2,14 +2,11 @@
 -- row of that number is the first that applies of document 01's two tables, and the word and the fact that it gives are
 -- those that stand behind the row; where it names no reason the step is finished. That the call changes nothing is its
 -- type: it is lent everything for reading.
-use Rattle.std.specs.Prelude.{◌≡◌, List, ◌++◌, ℕ}
-use Rattle.state.specs.declared.setup.Setup.TheVariants.{Accepted}
+use Rattle.std.specs.Prelude.{◌≡◌, List, ◌++◌, ℕ, Ok}
 use Rattle.state.specs.Machine.{Env, Machine, machine}
 use Rattle.state.specs.Setup.{refusal}
 use Rattle.machine.specs.declared.run.Ended.{Ended}
-use Rattle.machine.specs.declared.step.Answer.TheVariants.{Ran}
 use Rattle.machine.specs.declared.step.Answered.{Answered}
-use Rattle.machine.specs.declared.step.Outcome.TheVariants as outcome
 use Rattle.machine.specs.declared.why.Cause.{Cause}
 use Rattle.machine.specs.Numbers.{answer_number, reason_number, answer_carried, reason_carried}
 use Rattle.machine.specs.Run.{RunIs, whole_run}
@@ -22,8 +19,8 @@ use Rattle.demands.specs.Tables.{Says, Not}
 -- of an accepted set-up it answers the step's outcome, so that it names a number where and only where the step stops so
 abbrev pub WhyOutcome : Type 0
 WhyOutcome =
-    (p : List ℕ) (e : Env) (m : Machine) (y : Cause) → WhyIs (why_of p e m) y → refusal p e m ≡ Accepted
-    → y.answer ≡ Ran (step_of p e m).outcome
+    (p : List ℕ) (e : Env) (m : Machine) (y : Cause) → WhyIs (why_of p e m) y → refusal p e m ≡ Ok tt
+    → y.answer ≡ Ok (step_of p e m).outcome
 
 -- the call and a step on the same memory answer the same, refusals too
 abbrev pub WhyAgrees : Type 0
@@ -47,8 +44,8 @@ OneReason =
 
 -- no reason is named exactly where the set-up is accepted and the step is finished
 pub record Goes (p : List ℕ) (e : Env) (m : Machine) : Type 0 where
-  pub accepted : refusal p e m ≡ Accepted
-  pub finished : (step_of p e m).outcome ≡ outcome.Finished
+  pub accepted : refusal p e m ≡ Ok tt
+  pub finished : (step_of p e m).outcome ≡ Ok tt
 
 abbrev pub WhyGoes : Type 0
 WhyGoes =

@@ -2,7 +2,7 @@
 -- operands. A code stands for what an operation does, so the forms of one operation (ADDV and ADDVI, SLL and SLLI,
 -- AND.V and ANDI.B) have one code, and the flag says that the last operand is an immediate. Immediates and offsets
 -- are kept as the numbers that they stand for, modulo 2^32.
-use Rattle.std.specs.Prelude.{ℕ, ◌+◌, ◌-◌, ◌*◌, ◌%◌, pos, ◌*ℤ◌}
+use Rattle.std.specs.Prelude.{ℕ, ◌+◌, ◌-◌, ◌*◌, ◌%◌, pos, ◌*ℤ◌, Ok, Err, Result}
 use Rattle.isa.specs.declared.Absolute.TheVariants.{MaxA, MinA}
 use Rattle.isa.specs.declared.Across.TheVariants.{HaddS, HaddU, HsubS, HsubU}
 use Rattle.isa.specs.declared.Addition.TheVariants.{AddA, AddsA, AddsS, AddsU, AveS, AveU, AverS, AverU}
@@ -29,8 +29,6 @@ use Rattle.isa.specs.declared.Logic.TheVariants.{And, Or, Nor, Xor, Bmnz, Bmz, B
 use Rattle.isa.specs.declared.Memory.{Memory}
 use Rattle.isa.specs.declared.Memory.TheVariants.{Ld, St}
 use Rattle.isa.specs.declared.Product.TheVariants.{Mulv, Maddv, Msubv, DivS, DivU, ModS, ModU}
-use Rattle.isa.specs.declared.Read.{Read}
-use Rattle.isa.specs.declared.Read.TheVariants as read
 use Rattle.isa.specs.declared.Rounding.TheVariants.{Srar, Srlr}
 use Rattle.isa.specs.declared.Saturate.TheVariants.{SatS, SatU}
 use Rattle.isa.specs.declared.Scaled.{Scaled}
@@ -204,6 +202,6 @@ instr_entry (instr.Scaled k rd rs rt sa) = packed (scaled_code (scaled_at k.0)) 
 instr_entry (instr.Fixed k df wd ws wt) =
     packed (fixed_code (fixed_at k.0)) (width_code df) 0 wd.0 ws.0 wt.0 0
 
-abbrev pub entry_of : Read → ℕ
-entry_of (read.Not u) = packed (unread_code u) 0 0 0 0 0 0
-entry_of (read.Instr i) = instr_entry i
+abbrev pub entry_of : Result Instr Unread → ℕ
+entry_of (Err u) = packed (unread_code u) 0 0 0 0 0 0
+entry_of (Ok i) = instr_entry i

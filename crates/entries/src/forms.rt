@@ -1,9 +1,8 @@
 // The forms that the entries of several classes have: which registers of the word stand in them, and what is 0. A class
 // that has no format gives B, whose code is 0.
-ghost use Rattle.std.specs.Prelude.{◌≡◌, cond, if◌then◌else◌};
+ghost use Rattle.std.specs.Prelude.{◌≡◌, cond, if◌then◌else◌, Err};
 ghost use Rattle.fields.specs.Fields.{bits, both};
 ghost use Rattle.isa.specs.Widths.{width_code};
-ghost use Rattle.isa.specs.declared.Read.TheVariants as read;
 ghost use Rattle.ops.specs.Formats as formats;
 ghost use Rattle.ops.specs.Packed.{formats_of};
 ghost use Rattle.reading.specs.Index.{element_index};
@@ -21,7 +20,7 @@ use reading::index::{Index, element_index};
 
 // A word that is not read.
 pub fn unread(u: Unread) -> u64
-    ensures { result ≡ entry_of (read.Not u) }
+    ensures { result ≡ entry_of (Err u) }
 {
     packed(unread_code(u), 0, 0, 0, 0, 0, 0)
 }

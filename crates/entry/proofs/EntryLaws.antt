@@ -7,19 +7,17 @@ use lib.Dec.{eqb, ltb}
 use Rattle.isa.specs.declared.Unread.TheVariants.{Unassigned, LeftOut, Other}
 use Rattle.state.specs.declared.setup.Refusal.{Refusal}
 use Rattle.state.specs.declared.setup.Refusal.TheVariants.{Registers, Program, WindowSize, SharedAddress, State}
-use Rattle.state.specs.declared.setup.Setup.{Setup}
-use Rattle.state.specs.declared.setup.Setup.TheVariants as setup
+use Rattle.std.specs.Prelude.{Ok, Err, Result, ⊤}
+use Rattle.state.specs.declared.stops.Stop.{Stop}
 use Rattle.state.specs.declared.stops.Stop.TheVariants as stop
 use Rattle.state.specs.Machine.{Env, Machine}
 use Rattle.state.specs.Setup.{refusal}
 use Rattle.machine.specs.declared.run.Ended.{Ended}
 use Rattle.machine.specs.declared.run.Reason.TheVariants as reason
-use Rattle.machine.specs.declared.step.Outcome.{Outcome}
-use Rattle.machine.specs.declared.step.Outcome.TheVariants.{Finished, Stopped}
 use Rattle.machine.specs.declared.why.Cause.{Cause}
 use Rattle.machine.specs.Numbers.{answer_number, reason_number, answer_missing, reason_missing}
 use Rattle.machine.specs.Run.{Run, RunIs, ended, onward, runs, admitted, whole_run}
-use Rattle.machine.specs.Step.{Result, Whole, result, step_of, whole, whole_step}
+use Rattle.machine.specs.Step.{Ending, Whole, result, step_of, whole, whole_step}
 use Rattle.machine.specs.Why.{WhyIs}
 use Rattle.machine.proofs.Said.{reason-is, why-is}
 use Rattle.entry.specs.Block.{written}
@@ -67,30 +65,30 @@ module _ (v g w b b' : List ℕ) where
             ∙ ap (λ z. cond (eqb (answer_number t.answer) 0) (written z.ctl b) b) m;
       }
 
-  refused : (x : Refusal) (m : Machine) (q : Result) → Single (ended (reason.Refused x) m) (whole (setup.Refused x) q m)
+  refused : (x : Refusal) (m : Machine) (q : Ending) → Single (ended (reason.Refused x) m) (whole (Err x) q m)
   refused Registers m q = single _ _ refl refl refl refl
   refused Program m q = single _ _ refl refl refl refl
   refused WindowSize m q = single _ _ refl refl refl refl
   refused SharedAddress m q = single _ _ refl refl refl refl
   refused State m q = single _ _ refl refl refl refl
 
-  ran : (o : Outcome) (m n : Machine) → Single (onward o m (ended reason.Spent m)) (whole setup.Accepted (result o m) n)
-  ran Finished m n = single _ _ refl refl refl refl
-  ran (Stopped stop.NoWord) m n = single _ _ refl refl refl refl
-  ran (Stopped (stop.Unread Unassigned)) m n = single _ _ refl refl refl refl
-  ran (Stopped (stop.Unread LeftOut)) m n = single _ _ refl refl refl refl
-  ran (Stopped (stop.Unread Other)) m n = single _ _ refl refl refl refl
-  ran (Stopped stop.BranchInSlot) m n = single _ _ refl refl refl refl
-  ran (Stopped stop.SwitchedOff) m n = single _ _ refl refl refl refl
-  ran (Stopped (stop.NoWindow x)) m n = single _ _ refl refl refl refl
-  ran (Stopped (stop.ReadOnly x)) m n = single _ _ refl refl refl refl
-  ran (Stopped (stop.Trap x)) m n = single _ _ refl refl refl refl
+  ran : (o : Result ⊤ Stop) (m n : Machine) → Single (onward o m (ended reason.Spent m)) (whole (Ok tt) (result o m) n)
+  ran (Ok tt) m n = single _ _ refl refl refl refl
+  ran (Err stop.NoWord) m n = single _ _ refl refl refl refl
+  ran (Err (stop.Unread Unassigned)) m n = single _ _ refl refl refl refl
+  ran (Err (stop.Unread LeftOut)) m n = single _ _ refl refl refl refl
+  ran (Err (stop.Unread Other)) m n = single _ _ refl refl refl refl
+  ran (Err stop.BranchInSlot) m n = single _ _ refl refl refl refl
+  ran (Err stop.SwitchedOff) m n = single _ _ refl refl refl refl
+  ran (Err (stop.NoWindow x)) m n = single _ _ refl refl refl refl
+  ran (Err (stop.ReadOnly x)) m n = single _ _ refl refl refl refl
+  ran (Err (stop.Trap x)) m n = single _ _ refl refl refl refl
 
-  admits : (p : List ℕ) (e : Env) (m : Machine) (s : Setup)
+  admits : (p : List ℕ) (e : Env) (m : Machine) (s : Result ⊤ Refusal)
       → Single (admitted s (runs p e 1 m) m) (whole s (step_of p e m) m)
   unfolding runs
-  admits p e m setup.Accepted = ran (step_of p e m).outcome (step_of p e m).after m
-  admits p e m (setup.Refused x) = refused x m (step_of p e m)
+  admits p e m (Ok tt) = ran (step_of p e m).outcome (step_of p e m).after m
+  admits p e m (Err x) = refused x m (step_of p e m)
 
   pub steps-to : (p : List ℕ) (e : Env) (m : Machine) → Single (whole_run p e 1 m) (whole_step p e m)
   steps-to p e m = admits p e m (refusal p e m)

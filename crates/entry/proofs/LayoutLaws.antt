@@ -16,7 +16,7 @@ use Rattle.state.specs.declared.control.Control.{Control}
 use Rattle.state.specs.declared.control.Mark.{Mark}
 use Rattle.state.specs.declared.control.Mark.TheVariants.{Clear, NotTaken, Taken}
 use Rattle.state.specs.declared.setup.Refusal.TheVariants.{Registers, Program, WindowSize, SharedAddress, State}
-use Rattle.state.specs.declared.setup.Setup.TheVariants.{Accepted, Refused}
+use Rattle.std.specs.Prelude.{Ok, Err}
 use Rattle.state.specs.Setup.{refusal, first, registers_bad, program_bad, window_bad, shares, state_bad}
 use Rattle.memory.specs.Bytes.{part, number, bytes_of}
 use Rattle.memory.proofs.Numbers.{length-bytes_of, number-bytes_of}
@@ -51,8 +51,8 @@ outside b h =
 
 -- the table of limits with its last row broken
 last-broken : (r p s a x y : Bool) → x ≡ true
-    → cond r (Refused Registers) (cond p (Refused Program) (cond s (Refused WindowSize) (cond a (Refused SharedAddress) (cond x (Refused State) Accepted))))
-    ≡ or_five (cond r (Refused Registers) (cond p (Refused Program) (cond s (Refused WindowSize) (cond a (Refused SharedAddress) (cond y (Refused State) Accepted)))))
+    → cond r (Err Registers) (cond p (Err Program) (cond s (Err WindowSize) (cond a (Err SharedAddress) (cond x (Err State) (Ok tt)))))
+    ≡ or_five (cond r (Err Registers) (cond p (Err Program) (cond s (Err WindowSize) (cond a (Err SharedAddress) (cond y (Err State) (Ok tt))))))
 last-broken true p s a x y h = refl
 last-broken false true s a x y h = refl
 last-broken false false true a x y h = refl

@@ -1,12 +1,11 @@
 -- Three facts of the layout: a block outside it is refused with 5, after 1 to 4; byte 23 names the order; and a block
 -- that is written reads as it was.
-use Rattle.std.specs.Prelude.{◌≡◌, Bool, false, ◌&&◌, List, ℕ, ◌^◌, ◌<◌, eqb, leb, length, get_or}
+use Rattle.std.specs.Prelude.{◌≡◌, Bool, false, ◌&&◌, List, ℕ, ◌^◌, ◌<◌, eqb, leb, length, get_or, Ok, Err, Result, ⊤}
 use Rattle.order.specs.declared.Order.{Order}
 use Rattle.order.specs.declared.Order.TheVariants.{Little, Big}
 use Rattle.state.specs.declared.control.Control.{Control}
 use Rattle.state.specs.declared.setup.Refusal.TheVariants.{State}
-use Rattle.state.specs.declared.setup.Setup.{Setup}
-use Rattle.state.specs.declared.setup.Setup.TheVariants.{Accepted, Refused}
+use Rattle.state.specs.declared.setup.Refusal.{Refusal}
 use Rattle.state.specs.Machine.{Env, machine}
 use Rattle.state.specs.Setup.{refusal}
 use Rattle.entry.specs.Block.{field, byte, decoded, ordered, encoded, target_of}
@@ -16,9 +15,9 @@ abbrev pub in_layout : List ℕ → Bool
 in_layout b = eqb (length b) 24 && leb (field b 20 2) 2 && leb (byte b 22) 1 && leb (byte b 23) 1
 
 -- 5 in place of an acceptance
-abbrev pub or_five : Setup → Setup
-or_five Accepted = Refused State
-or_five (Refused r) = Refused r
+abbrev pub or_five : Result ⊤ Refusal → Result ⊤ Refusal
+or_five (Ok tt) = Err State
+or_five (Err r) = Err r
 
 -- bytes outside the layout are answered as any other block with the same set-up, and with 5 where that is accepted
 abbrev pub OutsideRefused : Type 0

@@ -1,8 +1,8 @@
 -- What `msa_why` answers: document 01's number, what kind of fact stands behind it, the word and the fact.
-use Rattle.std.specs.Prelude.{ℕ}
+use Rattle.std.specs.Prelude.{ℕ, Result, ⊤}
 use Rattle.state.specs.declared.stops.Stop.{Stop}
 use Rattle.state.specs.declared.stops.Stop.TheVariants as stop
-use Rattle.machine.specs.declared.step.Answer.{Answer}
+use Rattle.state.specs.declared.setup.Refusal.{Refusal}
 use Rattle.machine.specs.declared.why.Cause.{Cause}
 use Rattle.machine.specs.Numbers.{of_answer, answer_number}
 use Rattle.entry.specs.declared.MsaWhy.{MsaWhy}
@@ -18,7 +18,7 @@ stop_kind (stop.ReadOnly x) = 4
 stop_kind (stop.Trap bits) = 5
 
 -- 0 where there is no fact: the set-up is refused, or the step would be finished
-abbrev pub answer_kind : Answer → ℕ
+abbrev pub answer_kind : Result (Result ⊤ Stop) Refusal → ℕ
 answer_kind a = of_answer stop_kind a
 
 abbrev pub explained : Cause → MsaWhy

@@ -9,7 +9,6 @@ ghost use Rattle.entry.specs.Why.{stop_kind, answer_kind};
 
 use isa::Unread;
 use machine::run::Reason;
-use machine::step::{Answer, Outcome};
 use state::setup::Refusal;
 use state::stops::Stop;
 
@@ -49,21 +48,21 @@ fn stop_number(s: Stop) -> u8
     }
 }
 
-fn outcome_number(o: Outcome) -> u8
+fn outcome_number(o: Result<(), Stop>) -> u8
     ensures { result ≡ outcome_number o }
 {
     match o {
-        Outcome::Finished => 0,
-        Outcome::Stopped(s) => stop_number(s),
+        Ok(()) => 0,
+        Err(s) => stop_number(s),
     }
 }
 
-pub fn answer_number(a: Answer) -> u8
+pub fn answer_number(a: Result<Result<(), Stop>, Refusal>) -> u8
     ensures { result ≡ answer_number a }
 {
     match a {
-        Answer::Refused(r) => refusal_number(r),
-        Answer::Ran(o) => outcome_number(o),
+        Err(r) => refusal_number(r),
+        Ok(o) => outcome_number(o),
     }
 }
 
@@ -116,21 +115,21 @@ fn stop_kind(s: Stop) -> u8
     }
 }
 
-fn outcome_kind(o: Outcome) -> u8
+fn outcome_kind(o: Result<(), Stop>) -> u8
     ensures { result ≡ of_outcome stop_kind o }
 {
     match o {
-        Outcome::Finished => 0,
-        Outcome::Stopped(s) => stop_kind(s),
+        Ok(()) => 0,
+        Err(s) => stop_kind(s),
     }
 }
 
 // What the fact behind a stop is, and 0 where there is none.
-pub fn answer_kind(a: Answer) -> u8
+pub fn answer_kind(a: Result<Result<(), Stop>, Refusal>) -> u8
     ensures { result ≡ answer_kind a }
 {
     match a {
-        Answer::Refused(_) => 0,
-        Answer::Ran(o) => outcome_kind(o),
+        Err(_) => 0,
+        Ok(o) => outcome_kind(o),
     }
 }

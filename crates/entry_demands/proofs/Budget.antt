@@ -9,8 +9,8 @@ use lib.Dec.{eqb, leb}
 use lib.ListN.{length}
 use Rattle.state.specs.declared.control.Control.{Control}
 use Rattle.state.specs.declared.control.Mark.TheVariants.{Clear}
-use Rattle.state.specs.declared.setup.Setup.{Setup}
-use Rattle.state.specs.declared.setup.Setup.TheVariants.{Accepted, Refused}
+use Rattle.std.specs.Prelude.{Ok, Err, Result, ⊤}
+use Rattle.state.specs.declared.setup.Refusal.{Refusal}
 use Rattle.state.specs.Setup.{refusal}
 use Rattle.state.proofs.TestLaws.{and_left, and_right}
 use Rattle.machine.specs.declared.run.Reason.TheVariants.{Spent}
@@ -51,10 +51,10 @@ budget-called g b budget x y r q some l clear i =
       λ h. ran.1 (twenty _ (reasoned _) (sym i.reason ∙ h)),
     )
   where
-    go : (s : Setup) → refusal g.program (env_of g x) (machine_of x) ≡ s
+    go : (s : Result ⊤ Refusal) → refusal g.program (env_of g x) (machine_of x) ≡ s
         → ((whole_run g.program (env_of g x) budget (machine_of x)).count < b)
         × Not ((whole_run g.program (env_of g x) budget (machine_of x)).reason ≡ Spent)
-    go Accepted h =
+    go (Ok tt) h =
         let is = clear-block x.control (in-layout g.program (env_of g x) x h) clear in
         let counter : (decoded x.control).pc ≡ little x.control 0 8 =
         ap (λ (c : Control). c.pc) is ∙ sym (little-number x.control 0 8)
@@ -63,6 +63,6 @@ budget-called g b budget x y r q some l clear i =
         rw (counter, q) (budget-is g.program g.program_base (little x.control 0 8))
         in
         budget-enough g.program (env_of g x) (machine_of x) b budget answer some l (ap (λ (c : Control). c.mark) is)
-    go (Refused u) h =
+    go (Err u) h =
         rw (refused-run g.program (env_of g x) budget (machine_of x) u h)
         (some, λ e. let z : ◌≡◌ {A = ℕ} 0 1 = cc in omega arith)

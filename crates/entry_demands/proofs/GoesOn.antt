@@ -11,8 +11,8 @@ use lib.Dec.{ltb}
 use lib.ListN.{length, get_or}
 use Rattle.memory.specs.Bytes.{AreBytes}
 use Rattle.state.specs.declared.control.Control.{Control}
-use Rattle.state.specs.declared.setup.Setup.{Setup}
-use Rattle.state.specs.declared.setup.Setup.TheVariants.{Accepted, Refused}
+use Rattle.std.specs.Prelude.{Ok, Err, Result, ⊤}
+use Rattle.state.specs.declared.setup.Refusal.{Refusal}
 use Rattle.state.specs.Machine.{Env, Machine}
 use Rattle.state.specs.Setup.{refusal}
 use Rattle.machine.specs.declared.run.Reason.{Reason}
@@ -41,9 +41,9 @@ twenty r spends h = refl
 twenty r (fewer l u) h = absurd (omega arith)
 
 -- and no refused run has it
-admits : (q : Setup) (r : Run) (m : Machine) → (admitted q r m).reason ≡ reason.Spent → q ≡ Accepted
-admits Accepted r m h = refl
-admits (Refused x) r m h = let z : ◌≡◌ {A = ℕ} 0 1 = cc in absurd (omega arith)
+admits : (q : Result ⊤ Refusal) (r : Run) (m : Machine) → (admitted q r m).reason ≡ reason.Spent → q ≡ Ok tt
+admits (Ok tt) r m h = refl
+admits (Err x) r m h = let z : ◌≡◌ {A = ℕ} 0 1 = cc in absurd (omega arith)
 
 -- the bytes of a block after a call of this count that ends with c
 abbrev settled : ℕ → Control → List ℕ → List ℕ
@@ -92,13 +92,13 @@ module _ (g : Given) (n : ℕ) (x : Lent) (bytes : AreBytes x.control) where
   abbrev run : Run
   run = whole_run p e n (machine_of x)
 
-  settled-reads : (q : Setup) → refusal p e (machine_of x) ≡ q
+  settled-reads : (q : Result ⊤ Refusal) → refusal p e (machine_of x) ≡ q
       → decoded (settled run.count run.after.ctl x.control) ≡ run.after.ctl
-  settled-reads Accepted h =
+  settled-reads (Ok tt) h =
       settled_back x.control run.count run.after.ctl (long p e x h)
       (run-in-range p e n (machine_of x) (decoded-in-range x.control bytes))
       (no_steps (accepted-run p e n (machine_of x) h).steps)
-  settled-reads (Refused u) h = rw (refused-run p e n (machine_of x) u h)
+  settled-reads (Err u) h = rw (refused-run p e n (machine_of x) u h)
 
   pub left-machine : (a : MsaEnded) (y : Lent) → Call g n x a y → machine_of y ≡ run.after
   left-machine a y i =
@@ -108,7 +108,7 @@ module _ (g : Given) (n : ℕ) (x : Lent) (bytes : AreBytes x.control) where
 
 -- what the first call has left
 record Left (g : Given) (n : ℕ) (x y : Lent) : Type 0 where
-  accepted : refusal g.program (env_of g x) (machine_of x) ≡ Accepted
+  accepted : refusal g.program (env_of g x) (machine_of x) ≡ Ok tt
   ends : (whole_run g.program (env_of g x) n (machine_of x)).reason ≡ reason.Spent
   control : y.control ≡ settled n (whole_run g.program (env_of g x) n (machine_of x)).after.ctl x.control
   order : get_or y.control 23 0 ≡ get_or x.control 23 0
@@ -122,7 +122,7 @@ left g n a x y bytes i h =
     let m : Machine = machine_of x in
     let r : Run = whole_run p e n m in
     let ends : r.reason ≡ reason.Spent = twenty r.reason (reasoned r.reason) (sym i.reason ∙ h) in
-    let ok : refusal p e m ≡ Accepted = admits (refusal p e m) (runs p e n m) m ends in
+    let ok : refusal p e m ≡ Ok tt = admits (refusal p e m) (runs p e n m) m ends in
     let all : r.count ≡ n = spent-count (accepted-run p e n m ok).why ends in
     record {
       accepted = ok;
@@ -145,7 +145,7 @@ goes-on-called g n k a b c x y z z' bytes i h j l =
     let steps = (accepted-run p e n (machine_of x) first.accepted).steps in
     let m : Machine = (whole_run p e n (machine_of x)).after in
     let s : Run = whole_run p e k m in
-    let ok : refusal p e m ≡ Accepted = steps-accepted p e _ (machine_of x) m steps first.accepted in
+    let ok : refusal p e m ≡ Ok tt = steps-accepted p e _ (machine_of x) m steps first.accepted in
     let on = goes_on p e n k (machine_of x) first.accepted first.ends in
     let there : Leaves (whole_run p e k (machine_of y)) y b z =
     subst (λ f. Leaves (whole_run p f k (machine_of y)) y b z) (same-env g x y first.order) j in

@@ -10,14 +10,14 @@ use lib.Dec.{eqb, leb, ltb}
 use lib.ListN.{length}
 use Rattle.order.specs.declared.Order.TheVariants.{Little, Big}
 use Rattle.state.specs.declared.control.Control.{Control}
-use Rattle.state.specs.declared.setup.Setup.{Setup}
-use Rattle.state.specs.declared.setup.Setup.TheVariants.{Accepted, Refused}
+use Rattle.std.specs.Prelude.{Ok, Err, Result, ⊤}
+use Rattle.state.specs.declared.setup.Refusal.{Refusal}
 use Rattle.state.specs.Machine.{Env, Machine}
 use Rattle.state.specs.Setup.{refusal}
 use Rattle.state.proofs.TestLaws.{and_left, and_right}
 use Rattle.machine.specs.Numbers.{answer_number}
 use Rattle.machine.specs.Run.{Run, admitted, runs, whole_run}
-use Rattle.machine.specs.Step.{Result, whole, step_of, whole_step}
+use Rattle.machine.specs.Step.{Ending, whole, step_of, whole_step}
 use Rattle.entry.specs.Block.{field, byte, decoded, ordered, order_number, written}
 use Rattle.entry.specs.Layout.{in_layout, or_five}
 use Rattle.entry.proofs.LayoutLaws.{outside-refused, order-written}
@@ -27,11 +27,11 @@ use Rattle.entry_demands.specs.Order.{StepKeepsOrder, RunKeepsOrder}
 
 -- ---- a block that is accepted is one of the layout
 
-not_five : (q : Setup) → or_five q ≡ Accepted → ⊥
-not_five Accepted h = let z : ◌≡◌ {A = ℕ} 0 1 = cc in omega arith
-not_five (Refused x) h = let z : ◌≡◌ {A = ℕ} 0 1 = cc in omega arith
+not_five : (q : Result ⊤ Refusal) → or_five q ≡ Ok tt → ⊥
+not_five (Ok tt) h = let z : ◌≡◌ {A = ℕ} 0 1 = cc in omega arith
+not_five (Err x) h = let z : ◌≡◌ {A = ℕ} 0 1 = cc in omega arith
 
-module _ (p : List ℕ) (e : Env) (x : Lent) (ok : refusal p e (machine_of x) ≡ Accepted) where
+module _ (p : List ℕ) (e : Env) (x : Lent) (ok : refusal p e (machine_of x) ≡ Ok tt) where
   pub in-layout : in_layout x.control ≡ true
   in-layout = go (in_layout x.control) refl
     where
@@ -55,7 +55,7 @@ module _ (b : List ℕ) (h : in_layout b ≡ true) where
   named : byte b 23 ≤ 1
   named = leb-true _ _ tests.1
 
-pub long : (p : List ℕ) (e : Env) (x : Lent) → refusal p e (machine_of x) ≡ Accepted → length x.control ≡ 24
+pub long : (p : List ℕ) (e : Env) (x : Lent) → refusal p e (machine_of x) ≡ Ok tt → length x.control ≡ 24
 long p e x ok = sized x.control (in-layout p e x ok)
 
 -- ---- the block keeps its order
@@ -77,13 +77,13 @@ settles true c b h = written_keeps c b (h refl)
 settles false c b h = refl
 
 -- no refused call writes it
-finished-accepted : (q : Setup) (s : Result) (m : Machine) → answer_number (whole q s m).answer ≡ 0 → q ≡ Accepted
-finished-accepted Accepted s m h = refl
-finished-accepted (Refused r) s m h = absurd (omega (arith, (refusal-between r).0))
+finished-accepted : (q : Result ⊤ Refusal) (s : Ending) (m : Machine) → answer_number (whole q s m).answer ≡ 0 → q ≡ Ok tt
+finished-accepted (Ok tt) s m h = refl
+finished-accepted (Err r) s m h = absurd (omega (arith, (refusal-between r).0))
 
-counted-accepted : (q : Setup) (r : Run) (m : Machine) → 0 < (admitted q r m).count → q ≡ Accepted
-counted-accepted Accepted r m h = refl
-counted-accepted (Refused x) r m h = absurd (omega arith)
+counted-accepted : (q : Result ⊤ Refusal) (r : Run) (m : Machine) → 0 < (admitted q r m).count → q ≡ Ok tt
+counted-accepted (Ok tt) r m h = refl
+counted-accepted (Err x) r m h = absurd (omega arith)
 
 pub step-keeps-order : StepKeepsOrder
 step-keeps-order g x y r i =

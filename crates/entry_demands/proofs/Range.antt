@@ -20,8 +20,8 @@ use Rattle.plan.specs.Plan.{plan_of, marked}
 use Rattle.state.specs.declared.control.Control.{Control}
 use Rattle.state.specs.declared.control.Mark.{Mark}
 use Rattle.state.specs.declared.control.Mark.TheVariants.{Clear, NotTaken, Taken}
-use Rattle.state.specs.declared.setup.Setup.{Setup}
-use Rattle.state.specs.declared.setup.Setup.TheVariants.{Accepted, Refused}
+use Rattle.std.specs.Prelude.{Ok, Err, Result, ⊤}
+use Rattle.state.specs.declared.setup.Refusal.{Refusal}
 use Rattle.state.specs.Setup.{refusal}
 use Rattle.machine.specs.Effect.{control_after, forwarded, pc_after}
 use Rattle.machine.specs.Run.{whole_run}
@@ -113,6 +113,6 @@ steps-in-range p e n m m' (more h s) i = steps-in-range p e _ _ m' s (step-in-ra
 pub run-in-range : RunInRange
 run-in-range p e budget m i = go (refusal p e m) refl
   where
-    go : (q : Setup) → refusal p e m ≡ q → InRange (whole_run p e budget m).after.ctl
-    go Accepted h = steps-in-range p e _ m _ (accepted-run p e budget m h).steps i
-    go (Refused r) h = rw (refused-run p e budget m r h) i
+    go : (q : Result ⊤ Refusal) → refusal p e m ≡ q → InRange (whole_run p e budget m).after.ctl
+    go (Ok tt) h = steps-in-range p e _ m _ (accepted-run p e budget m h).steps i
+    go (Err r) h = rw (refused-run p e budget m r h) i

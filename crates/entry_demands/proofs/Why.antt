@@ -7,9 +7,9 @@ use Rattle.isa.specs.declared.Unread.TheVariants.{Unassigned, LeftOut, Other}
 use Rattle.state.specs.declared.stops.Stop.TheVariants as stop
 use Rattle.state.specs.Numbers.{refusal_number}
 use Rattle.state.specs.Setup.{refusal}
-use Rattle.machine.specs.declared.step.Answer.{Answer}
-use Rattle.machine.specs.declared.step.Answer.TheVariants.{Refused, Ran}
-use Rattle.machine.specs.declared.step.Outcome.TheVariants.{Finished, Stopped}
+use Rattle.std.specs.Prelude.{Ok, Err, Result, ⊤}
+use Rattle.state.specs.declared.stops.Stop.{Stop}
+use Rattle.state.specs.declared.setup.Refusal.{Refusal}
 use Rattle.machine.specs.Numbers.{answer_number, answer_missing}
 use Rattle.machine.specs.Run.{whole_run}
 use Rattle.machine.specs.Step.{whole_step}
@@ -26,18 +26,18 @@ use Rattle.entry_demands.proofs.Order.{run-keeps-order, same-env}
 
 -- ---- kinds
 
-kind-is : (a : Answer) → KindIs (answer_number a) (answer_kind a)
-kind-is (Refused r) = nothing (refusal_number r) (omega (arith, (refusal-between r).1))
-kind-is (Ran Finished) = nothing 0 (omega arith)
-kind-is (Ran (Stopped stop.NoWord)) = counter
-kind-is (Ran (Stopped (stop.Unread Unassigned))) = word 12 (omega arith) (omega arith)
-kind-is (Ran (Stopped (stop.Unread LeftOut))) = word 13 (omega arith) (omega arith)
-kind-is (Ran (Stopped (stop.Unread Other))) = word 14 (omega arith) (omega arith)
-kind-is (Ran (Stopped stop.BranchInSlot)) = word 15 (omega arith) (omega arith)
-kind-is (Ran (Stopped stop.SwitchedOff)) = switch
-kind-is (Ran (Stopped (stop.NoWindow x))) = address 17 (omega arith) (omega arith)
-kind-is (Ran (Stopped (stop.ReadOnly x))) = address 18 (omega arith) (omega arith)
-kind-is (Ran (Stopped (stop.Trap b))) = bits
+kind-is : (a : Result (Result ⊤ Stop) Refusal) → KindIs (answer_number a) (answer_kind a)
+kind-is (Err r) = nothing (refusal_number r) (omega (arith, (refusal-between r).1))
+kind-is (Ok (Ok tt)) = nothing 0 (omega arith)
+kind-is (Ok (Err stop.NoWord)) = counter
+kind-is (Ok (Err (stop.Unread Unassigned))) = word 12 (omega arith) (omega arith)
+kind-is (Ok (Err (stop.Unread LeftOut))) = word 13 (omega arith) (omega arith)
+kind-is (Ok (Err (stop.Unread Other))) = word 14 (omega arith) (omega arith)
+kind-is (Ok (Err stop.BranchInSlot)) = word 15 (omega arith) (omega arith)
+kind-is (Ok (Err stop.SwitchedOff)) = switch
+kind-is (Ok (Err (stop.NoWindow x))) = address 17 (omega arith) (omega arith)
+kind-is (Ok (Err (stop.ReadOnly x))) = address 18 (omega arith) (omega arith)
+kind-is (Ok (Err (stop.Trap b))) = bits
 
 -- ---- the call
 
@@ -48,7 +48,7 @@ why-called g x u i =
     rw i (record { says = whole_says p e (machine_of x); kind = kind-is (why_of p e (machine_of x)).answer })
 
 -- on a machine whose next step answers a
-agrees : (g : Given) (x : Lent) (u : MsaWhy) (a : Answer) → WhyCall g x u
+agrees : (g : Given) (x : Lent) (u : MsaWhy) (a : Result (Result ⊤ Stop) Refusal) → WhyCall g x u
     → (whole_step g.program (env_of g x) (machine_of x)).answer ≡ a → Agrees u (answer_number a) (answer_missing a)
 agrees g x u a i h =
     let p = g.program in

@@ -5,8 +5,8 @@ use mathlib.Core.List.{List}
 use Prim.Native.Nat.{ℕ, ◌/◌}
 use lib.Dec.{ltb}
 use lib.ListN.{length}
-use Rattle.state.specs.declared.setup.Setup.{Setup}
-use Rattle.state.specs.declared.setup.Setup.TheVariants as setup
+use Rattle.std.specs.Prelude.{Ok, Err, Result, ⊤}
+use Rattle.state.specs.declared.setup.Refusal.{Refusal}
 use Rattle.state.specs.Machine.{Env, Machine}
 use Rattle.state.specs.Setup.{refusal}
 use Rattle.machine.specs.declared.run.Reason.TheVariants as reason
@@ -30,10 +30,10 @@ module _ (p : List ℕ) (e : Env) (budget : ℕ) (m : Machine) (list : List ℕ)
   by_length true h = refl
   by_length false h = never (runs p e budget m) h
 
-  by-limits : (q : Setup) → (after_limits q p e budget m list).short ≡ true
+  by-limits : (q : Result ⊤ Refusal) → (after_limits q p e budget m list).short ≡ true
       → (after_limits q p e budget m list).run ≡ ended reason.Spent m
-  by-limits setup.Accepted h = by_length (ltb (length list) (length p / 4)) h
-  by-limits (setup.Refused x) h = never (ended (reason.Refused x) m) h
+  by-limits (Ok tt) h = by_length (ltb (length list) (length p / 4)) h
+  by-limits (Err x) h = never (ended (reason.Refused x) m) h
 
   -- where 51 is the answer, no instruction is run
   pub short-run : (listed_run p e budget m list).short ≡ true → (listed_run p e budget m list).run ≡ ended reason.Spent m

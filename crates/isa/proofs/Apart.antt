@@ -4,12 +4,9 @@ use mathlib.Core.Bool.{cond}
 use Prim.Native.Nat.{ℕ}
 use lib.Dec.{eqb}
 use Rattle.isa.specs.declared.Instr.{Instr}
-use Rattle.isa.specs.declared.Read.{Read}
-use Rattle.isa.specs.declared.Read.TheVariants as read
+use Rattle.std.specs.Prelude.{Ok, Err, Some, None, Result, Option}
 use Rattle.isa.specs.declared.Unread.{Unread}
 use Rattle.isa.specs.declared.Unread.TheVariants as unread
-use Rattle.isa.specs.declared.Written.{Written}
-use Rattle.isa.specs.declared.Written.TheVariants as written
 use Rattle.isa.specs.Numbers.{Said, number, values, read_said, written_said}
 
 -- a function that another one undoes tells its arguments apart
@@ -20,26 +17,26 @@ apart f g back a b e = sym (back a) ∙ ap g e ∙ back b
 abbrev unread_from : ℕ → Unread
 unread_from n = cond (eqb n 12) unread.Unassigned (cond (eqb n 13) unread.LeftOut unread.Other)
 
-abbrev read_from : Said Instr → Read
-read_from (number n) = read.Not (unread_from n)
-read_from (values i) = read.Instr i
+abbrev read_from : Said Instr → Result Instr Unread
+read_from (number n) = Err (unread_from n)
+read_from (values i) = Ok i
 
-read_back : (r : Read) → read_from (read_said r) ≡ r
-read_back (read.Not unread.Unassigned) = refl
-read_back (read.Not unread.LeftOut) = refl
-read_back (read.Not unread.Other) = refl
-read_back (read.Instr i) = refl
+read_back : (r : Result Instr Unread) → read_from (read_said r) ≡ r
+read_back (Err unread.Unassigned) = refl
+read_back (Err unread.LeftOut) = refl
+read_back (Err unread.Other) = refl
+read_back (Ok i) = refl
 
-pub read-apart : (r s : Read) → read_said r ≡ read_said s → r ≡ s
+pub read-apart : (r s : Result Instr Unread) → read_said r ≡ read_said s → r ≡ s
 read-apart = apart read_said read_from read_back
 
-abbrev written_from : Said ℕ → Written
-written_from (number n) = written.Refused
-written_from (values w) = written.Word w
+abbrev written_from : Said ℕ → Option ℕ
+written_from (number n) = None
+written_from (values w) = Some w
 
-written_back : (r : Written) → written_from (written_said r) ≡ r
-written_back written.Refused = refl
-written_back (written.Word w) = refl
+written_back : (r : Option ℕ) → written_from (written_said r) ≡ r
+written_back None = refl
+written_back (Some w) = refl
 
-pub written_apart : (r s : Written) → written_said r ≡ written_said s → r ≡ s
+pub written_apart : (r s : Option ℕ) → written_said r ≡ written_said s → r ≡ s
 written_apart = apart written_said written_from written_back

@@ -1,15 +1,10 @@
 -- Document 01's number and values for each case of what reading and writing a word answer. (Those of refusals and
 -- stops: `state` Numbers.) The promises are stated through these: an answer is what it says in that paper's terms, and
 -- nothing else.
-use Rattle.std.specs.Prelude.{ℕ}
+use Rattle.std.specs.Prelude.{ℕ, Ok, Result, Option, Err, Some, None}
 use Rattle.isa.specs.declared.Unread.{Unread}
 use Rattle.isa.specs.declared.Unread.TheVariants.{Unassigned, LeftOut, Other}
 use Rattle.isa.specs.declared.Instr.{Instr}
-use Rattle.isa.specs.declared.Read.{Read}
-use Rattle.isa.specs.declared.Read.TheVariants as read
-use Rattle.isa.specs.declared.Read.TheVariants.{Not}
-use Rattle.isa.specs.declared.Written.{Written}
-use Rattle.isa.specs.declared.Written.TheVariants.{Refused, Word}
 
 abbrev pub unread_number : Unread → ℕ
 unread_number Unassigned = 12
@@ -26,10 +21,10 @@ abbrev pub number_in : {A : Type 0} → Said A → ℕ
 number_in (number n) = n
 number_in (values a) = 0
 
-abbrev pub read_said : Read → Said Instr
-read_said (Not u) = number (unread_number u)
-read_said (read.Instr i) = values i
+abbrev pub read_said : Result Instr Unread → Said Instr
+read_said (Err u) = number (unread_number u)
+read_said (Ok i) = values i
 
-abbrev pub written_said : Written → Said ℕ
-written_said Refused = number 6
-written_said (Word w) = values w
+abbrev pub written_said : Option ℕ → Said ℕ
+written_said None = number 6
+written_said (Some w) = values w

@@ -395,23 +395,9 @@ pub enum Instr {
 }
 
 // Why a word reads as no instruction: 12, 13 and 14.
-#[derive(Clone, Copy)]
+#[derive(Clone, Copy, Debug, PartialEq, Eq)]
 pub enum Unread {
     Unassigned,
     LeftOut,
     Other,
-}
-
-// What reading a word answers.
-#[derive(Clone, Copy)]
-pub enum Read {
-    Not(Unread),
-    Instr(Instr),
-}
-
-// What writing an instruction answers: 6, or the word.
-#[derive(Clone, Copy)]
-pub enum Written {
-    Refused,
-    Word(u32),
 }

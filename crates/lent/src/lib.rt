@@ -6,9 +6,10 @@ ghost use Rattle.state.specs.Machine.{env, machine};
 ghost use Rattle.machine.specs.Step.{whole_step, WholeIs};
 ghost use Rattle.lent.specs.Lent.{answered};
 
-use machine::step::Answer;
 use state::board::Board;
 use state::control::Control;
+use state::setup::Refusal;
+use state::stops::Stop;
 
 // One step that brings the lent control block forward for its caller.
 pub fn step(
@@ -19,7 +20,7 @@ pub fn step(
     generals: &mut [u8],
     work: &mut [u8],
     c: &mut Control,
-) -> Answer
+) -> Result<Result<(), Stop>, Refusal>
     ensures { WholeIs (whole_step program.now (env board table.now) (machine vectors.old generals.old work.old c.old)) (answered result c.new) vectors.new generals.new work.new }
 {
     let a = machine::step::step(board, program, table, vectors, generals, work, *c);

@@ -7,7 +7,7 @@ ghost use Rattle.text.specs.Text.{Room, padded};
 ghost use Rattle.listing.specs.Listing.{part_text, line_of, Lists};
 ghost use Rattle.line_writer.specs.Moved.{moved};
 
-use listing::{Line, Part, put_part};
+use listing::{Part, put_part};
 
 #[derive(Drop)]
 pub struct LineWriter<'a> {
@@ -51,11 +51,11 @@ fn fill(line: &mut [u8], address: u32, word: u32) -> usize
 }
 
 // The line of a word and then blanks, in a lent line of 64 bytes; any other length is refused.
-pub fn write_line(line: &mut [u8], address: u32, word: u32) -> Line
+pub fn write_line(line: &mut [u8], address: u32, word: u32) -> Option<usize>
     ensures { Lists line.old address word result line.new }
 {
     if line.len() != 64 {
-        return Line::Refused;
+        return None;
     }
-    Line::Length(fill(line, address, word))
+    Some(fill(line, address, word))
 }

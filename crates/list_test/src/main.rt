@@ -3,7 +3,6 @@
 #![tactic(auto)]
 
 use line_writer::write_line;
-use listing::Line;
 use std::io;
 use streams::read_full;
 
@@ -19,8 +18,8 @@ fn word_of(a: u8, b: u8, c: u8, d: u8) -> u32 {
 fn refuses(address: u32, word: u32) -> bool {
     let mut short = [7u8; 63];
     match write_line(&mut short, address, word) {
-        Line::Refused => short == [7u8; 63],
-        Line::Length(_) => false,
+        None => short == [7u8; 63],
+        Some(_) => false,
     }
 }
 
@@ -29,8 +28,8 @@ fn agrees(r: [u8; 73]) -> bool {
     let word = word_of(r[4], r[5], r[6], r[7]);
     let mut line = [0u8; 64];
     match write_line(&mut line, address, word) {
-        Line::Refused => false,
-        Line::Length(n) => {
+        None => false,
+        Some(n) => {
             n == r[8] as usize && line.as_slice() == &r[9..] && refuses(address, word)
         }
     }

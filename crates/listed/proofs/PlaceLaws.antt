@@ -3,7 +3,7 @@ use Rattle.std.proofs.Common.{◌≡◌, ℕ, ◌+◌, ◌-◌, ◌*◌, ◌/◌
 use borrow.Author.Tests.{eqb-false}
 use Rattle.memory.specs.Bytes.{part, number}
 use Rattle.state.proofs.FetchLaws.{fetched-below, fetched-odd, fetched-past, fetched-word}
-use Rattle.state.specs.declared.fetch.Fetched.TheVariants.{Word, NoWord}
+use Rattle.std.specs.Prelude.{Some, None}
 use Rattle.state.specs.Fetch.{fetched}
 use Rattle.entries.specs.Listed.{word_at}
 use Rattle.listed.specs.Turn.{Stands, Placed}
@@ -51,19 +51,19 @@ past d r n is e whole h = omega arith
 
 module _ (base pc d r : ℕ) (small : d < 2 ^ 64) (back : (d + base) % 2 ^ 64 ≡ pc)
     (is : r ≡ d / 4 + d % 4 * 4611686018427387904) where
-  found : (p : List ℕ) → Stands base p → r < length p / 4 → fetched p base pc ≡ Word (word_at p r)
+  found : (p : List ℕ) → Stands base p → r < length p / 4 → fetched p base pc ≡ Some (word_at p r)
   found p s h =
       let e = even d r (length p) is s.few h in
       let n = near d r (length p) is e h in
       let o = onward base pc d (length p) back s.below (less d (length p) n) in
       let a : pc - base ≡ d = minus base pc d o in
       fetched-word p base pc (over base pc d o) (rw a e) (rw a n)
-      ∙ ap (λ x. Word (number (part p x 4))) (a ∙ place d r is e)
+      ∙ ap (λ x. Some (number (part p x 4))) (a ∙ place d r is e)
 
-  none : (p : List ℕ) → Stands base p → length p / 4 ≤ r → fetched p base pc ≡ NoWord
+  none : (p : List ℕ) → Stands base p → length p / 4 ≤ r → fetched p base pc ≡ None
   none p s h = go (ltb pc base) refl (eqb ((pc - base) % 4) 0) refl
     where
-      go : (b : Bool) → ltb pc base ≡ b → (t : Bool) → eqb ((pc - base) % 4) 0 ≡ t → fetched p base pc ≡ NoWord
+      go : (b : Bool) → ltb pc base ≡ b → (t : Bool) → eqb ((pc - base) % 4) 0 ≡ t → fetched p base pc ≡ None
       go true e t f = fetched-below p base pc (ltb-true pc base e)
       go false e false f = fetched-odd p base pc (eqb-false ((pc - base) % 4) 0 f)
       go false e true f =

@@ -6,8 +6,8 @@ use Rattle.acts.specs.Act.{At, said, plan_at, executed_at, kind_at, vreg, greg, 
 use Rattle.acts.specs.Act.{common_of, commons, move_of, moves}
 use Rattle.entries.specs.Cut.{code_of, width_of, dest_of, source_of}
 use Rattle.plan.specs.declared.Plan.{Plan}
-use Rattle.plan.specs.declared.planned.Early.{Early}
-use Rattle.plan.specs.declared.planned.Early.TheVariants.{Go, Stops}
+use Rattle.std.specs.Prelude.{Ok, Err, Result, ⊤}
+use Rattle.state.specs.declared.stops.Stop.{Stop}
 use Rattle.plan.specs.Plan.{accessed, early, unless, general_at}
 use Rattle.plan.specs.There.{There}
 use Rattle.plan.proofs.PlanLaws.{access-cases, control-cases}
@@ -69,9 +69,9 @@ module _ (e : Env) (m : Machine) (x : ℕ) where
       (either Names (ltb (code_of x) 88) _ _ (dest-below x)
       (either Names (ltb (code_of x) 105) _ _ (dest-below x) move-there))
 
-  unless-there : (s : Early) (p : Plan) → Names p → Names (unless s p)
-  unless-there Go p h = h
-  unless-there (Stops s) p h = tt
+  unless-there : (s : Result ⊤ Stop) (p : Plan) → Names p → Names (unless s p)
+  unless-there (Ok tt) p h = h
+  unless-there (Err s) p h = tt
 
   pub entry-there : There e.board.work (length m.work) (plan_at e m x)
   unfolding plan_at

@@ -1,11 +1,10 @@
 -- A run from a list of read instructions: the plain engine's run, and the list with the program's entries; 51 where
 -- the list has fewer entries than the program has words.
-use Rattle.std.specs.Prelude.{◌≡◌, ℕ, ◌/◌, Bool, true, false, List, length, nat_lt}
+use Rattle.std.specs.Prelude.{◌≡◌, ℕ, ◌/◌, Bool, true, false, List, length, nat_lt, Ok, Err, Result, ⊤}
 use Rattle.entries.specs.Listed.{listed}
 use Rattle.machine.specs.declared.run.Reason.TheVariants as reason
 use Rattle.machine.specs.Run.{Run, RunIs, ended, runs}
-use Rattle.state.specs.declared.setup.Setup.{Setup}
-use Rattle.state.specs.declared.setup.Setup.TheVariants as setup
+use Rattle.state.specs.declared.setup.Refusal.{Refusal}
 use Rattle.state.specs.declared.control.Control.{Control}
 use Rattle.state.specs.Machine.{Env, Machine}
 use Rattle.state.specs.Setup.{refusal}
@@ -28,9 +27,9 @@ accepted_run program e budget m list =
     unless_short (nat_lt (length list) (length program / 4)) program e budget m list
 
 -- 51 comes after 1 to 5
-abbrev pub after_limits : Setup → List ℕ → Env → ℕ → Machine → List ℕ → Listing
-after_limits setup.Accepted program e budget m list = accepted_run program e budget m list
-after_limits (setup.Refused x) program e budget m list =
+abbrev pub after_limits : Result ⊤ Refusal → List ℕ → Env → ℕ → Machine → List ℕ → Listing
+after_limits (Ok tt) program e budget m list = accepted_run program e budget m list
+after_limits (Err x) program e budget m list =
     record { short = false; run = ended (reason.Refused x) m; list = list }
 
 abbrev pub listed_run : List ℕ → Env → ℕ → Machine → List ℕ → Listing

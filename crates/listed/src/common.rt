@@ -18,7 +18,7 @@ use entries::parts::*;
 use isa::{Greg, Scaled, Vreg, Zero};
 use machine::advance::stopped;
 use machine::effect::{forward, write_general};
-use machine::step::{Outcome, Stepped};
+use machine::step::Stepped;
 use memory::Register;
 use memory::file::{read_register, write_register};
 use order::turn;
@@ -37,7 +37,7 @@ pub fn finished(c: Control) -> Stepped
     ensures { result ≡ finished_with c }
 {
     Stepped {
-        outcome: Outcome::Finished,
+        outcome: Ok(()),
         control: forward(c, Mark::Clear, c.csr),
     }
 }
@@ -139,7 +139,7 @@ fn branched(e: u64, is: bool, c: Control) -> Stepped
         Mark::Clear => {
             let to = wrapping_add_u64(wrapping_add_u64(c.pc, 4), extended(e));
             Stepped {
-                outcome: Outcome::Finished,
+                outcome: Ok(()),
                 control: forward(c, mark_of(is, to), c.csr),
             }
         }

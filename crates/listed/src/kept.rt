@@ -7,12 +7,6 @@ use entries::parts::code_of;
 use isa::Unread;
 use state::stops::Stop;
 
-#[derive(Clone, Copy)]
-pub enum Kept {
-    Code(u64),
-    Not(Unread),
-}
-
 fn unread_at(c: u64) -> Unread
     ensures { result ≡ unread_at c }
 {
@@ -23,23 +17,23 @@ fn unread_at(c: u64) -> Unread
     }
 }
 
-pub fn kept_as(e: u64) -> Kept
+pub fn kept_as(e: u64) -> Result<u64, Unread>
     ensures { result ≡ kept_as e }
 {
     let c = code_of(e);
     if c < 109 {
-        Kept::Code(c)
+        Ok(c)
     } else {
-        Kept::Not(unread_at(c))
+        Err(unread_at(c))
     }
 }
 
 // 12, 13 or 14 of a word that reads as no instruction.
-pub fn kept_stop(k: Kept) -> Stop
+pub fn kept_stop(k: Result<u64, Unread>) -> Stop
     ensures { result ≡ kept_stop k }
 {
     match k {
-        Kept::Not(u) => Stop::Unread(u),
-        Kept::Code(_) => Stop::NoWord,
+        Err(u) => Stop::Unread(u),
+        Ok(_) => Stop::NoWord,
     }
 }

@@ -9,27 +9,26 @@ ghost use Rattle.state.specs.Machine.{Env, env, machine};
 ghost use Rattle.listed.specs.Turn.{Reads};
 
 use crate::common::summed;
-use crate::kept::{Kept, kept_as, kept_stop};
+use crate::kept::{kept_as, kept_stop};
 use crate::place::place;
 use isa::Scaled;
 use machine::advance::stopped;
 use machine::run::{Ended, Reason};
-use machine::step::{Outcome, Stepped};
+use machine::step::Stepped;
 use plan::early::branch_early;
-use plan::planned::Early;
 use state::board::Board;
 use state::control::{Control, Mark};
 use state::stops::Stop;
 
 // Whether 15 or 16 stops the instruction of a code.
-fn early_at(k: u64, mark: Mark) -> Early
+fn early_at(k: u64, mark: Mark) -> Result<(), Stop>
     ensures { result ≡ early (kind_at k) mark false }
 {
     match k / 2 {
-        1 => Early::Go,
+        1 => Ok(()),
         2 => branch_early(mark, false),
         3 => branch_early(mark, false),
-        _ => Early::Stops(Stop::SwitchedOff),
+        _ => Err(Stop::SwitchedOff),
     }
 }
 
@@ -39,13 +38,13 @@ fn off(e: u64, generals: &mut [u8], c: Control) -> Stepped
         StepIs (concluded n.board.work (plan_at n m e) m) result v generals.new w }
 {
     let kept = kept_as(e);
-    let Kept::Code(k) = kept else {
+    let Ok(k) = kept else {
         return stopped(kept_stop(kept), c);
     };
     let mark = c.mark;
     match early_at(k, mark) {
-        Early::Stops(s) => stopped(s, c),
-        Early::Go => {
+        Err(s) => stopped(s, c),
+        Ok(()) => {
             if k == 2 {
                 summed(Scaled::Lsa, e, generals, c)
             } else {
@@ -83,7 +82,7 @@ pub fn turns_off(
         let s = off(list[at as usize], generals, control);
         let outcome = s.outcome;
         match outcome {
-            Outcome::Finished => {
+            Ok(()) => {
                 let next = s.control;
                 let mark = next.mark;
                 control = Control {
@@ -94,7 +93,7 @@ pub fn turns_off(
                 };
                 count += 1;
             }
-            Outcome::Stopped(stop) => {
+            Err(stop) => {
                 return Ended {
                     reason: Reason::Stopped(stop),
                     count,

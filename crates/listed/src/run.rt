@@ -11,7 +11,6 @@ use machine::run::{Ended, Reason};
 use state::board::Board;
 use state::control::Control;
 use state::setup;
-use state::setup::Setup;
 
 // Whether the list is too short, and where it is not, how the run ended.
 #[derive(Clone, Copy)]
@@ -95,10 +94,10 @@ pub fn run(
         result vectors.new generals.new work.new list.new }
 {
     match setup::check(board, program, table, vectors, generals, work, c) {
-        Setup::Accepted => accepted(
+        Ok(()) => accepted(
             board, program, table, vectors, generals, work, c, list, budget,
         ),
-        Setup::Refused(r) => Listed {
+        Err(r) => Listed {
             short: false,
             ended: Ended {
                 reason: Reason::Refused(r),

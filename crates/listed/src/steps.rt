@@ -12,7 +12,7 @@ ghost use Rattle.state.specs.declared.control.Control.{Control};
 ghost use Rattle.state.specs.Machine.{Env, env, machine};
 
 use crate::common::finished;
-use crate::kept::{Kept, kept_as, kept_stop};
+use crate::kept::{kept_as, kept_stop};
 use crate::moved::moved;
 use entries::parts::*;
 use isa::Vreg;
@@ -87,7 +87,7 @@ fn rest(
         result vectors.new generals.new work.new }
 {
     let k = kept_as(e);
-    let Kept::Code(_) = k else {
+    let Ok(_) = k else {
         return stopped(kept_stop(k), c);
     };
     let p = moved(e, vectors, generals, c);

@@ -10,7 +10,6 @@ use crate::place::place;
 use crate::steps::{quick, slow};
 use entries::parts::code_of;
 use machine::run::{Ended, Reason};
-use machine::step::Outcome;
 use state::board::Board;
 use state::control::Control;
 use state::stops::Stop;
@@ -58,7 +57,7 @@ pub fn turns(
         };
         let outcome = s.outcome;
         match outcome {
-            Outcome::Finished => {
+            Ok(()) => {
                 let next = s.control;
                 let mark = next.mark;
                 control = Control {
@@ -69,7 +68,7 @@ pub fn turns(
                 };
                 count += 1;
             }
-            Outcome::Stopped(stop) => {
+            Err(stop) => {
                 return Ended {
                     reason: Reason::Stopped(stop),
                     count,

@@ -3,7 +3,6 @@
 #![tactic(auto)]
 
 use line_writer::write_line;
-use listing::Line;
 use std::io;
 use std::io::{Read, Write};
 use streams::read_full;
@@ -19,8 +18,8 @@ fn word_of(b: [u8; 4]) -> u32 {
 fn print_line<W: Write>(output: &mut W, address: u32, word: u32) -> io::Result<()> {
     let mut line = [0u8; 64];
     match write_line(&mut line, address, word) {
-        Line::Refused => Ok(()),
-        Line::Length(n) => {
+        None => Ok(()),
+        Some(n) => {
             output.write_all(&line[..n])?;
             output.write_all(b"\n")
         }

@@ -9,13 +9,11 @@ use lib.Dec.{eqb, leb}
 use lib.ListN.{length, length-append}
 use Rattle.isa.specs.declared.Instr.{Instr}
 use Rattle.isa.specs.declared.Instr.TheVariants as instr
-use Rattle.isa.specs.declared.Read.{Read}
-use Rattle.isa.specs.declared.Read.TheVariants as read
+use Rattle.std.specs.Prelude.{Ok, Err, Result, Option, Some, None}
+use Rattle.isa.specs.declared.Unread.{Unread}
 use Rattle.shown.specs.declared.Form.{Form}
 use Rattle.shown.specs.declared.Form.TheVariants.{Bare, Each, Whole}
 use Rattle.shown.specs.declared.Shown.{Shown}
-use Rattle.listing.specs.declared.Line.{Line}
-use Rattle.listing.specs.declared.Line.TheVariants.{Refused, Length}
 use Rattle.listing.specs.declared.Part.TheVariants.{Address, Word, Text}
 use Rattle.fields.specs.Fields.{pick}
 use Rattle.isa.specs.Numbers.{number, values, unread_number}
@@ -77,9 +75,9 @@ shown-fits s h =
     simp length-append
     (omega (arith, name-short s.name, form-fits s.form, simp length-append at (operands-fit s)))
 
-read_fits : (r : Read) → length (read_text r) ≤ 40
-read_fits (read.Not u) = omega (arith, decimal-length (unread_number u))
-read_fits (read.Instr i) = shown-fits (shown_of i) (leb-true (most_of (shown_of i)) 29 (small i))
+read_fits : (r : Result Instr Unread) → length (read_text r) ≤ 40
+read_fits (Err u) = omega (arith, decimal-length (unread_number u))
+read_fits (Ok i) = shown-fits (shown_of i) (leb-true (most_of (shown_of i)) 29 (small i))
 
 pub line-fits : (a w : ℕ) → length (line_of a w) ≤ 64
 line-fits a w =
@@ -89,7 +87,7 @@ line-fits a w =
 -- ---- the answer
 
 module _ (line : List ℕ) (a w : ℕ) where
-  pub refused : (length line ≡ 64 → ⊥) → Lists line a w Refused line
+  pub refused : (length line ≡ 64 → ⊥) → Lists line a w None line
   refused h = record { said = rw (ne_eqb (length line) 64 h); line = rw (ne_eqb (length line) 64 h) }
 
   module _ (h : length line ≡ 64) where
@@ -97,14 +95,14 @@ module _ (line : List ℕ) (a w : ℕ) where
     room = record { fits = omega (arith, line-fits a w) }
 
     pub listed : {after : List ℕ} {n : ℕ} → (n ≡ length (line_of a w)) × (after ≡ padded (length line) (line_of a w))
-        → Lists line a w (Length n) after
+        → Lists line a w (Some n) after
     listed e =
         let t : eqb (length line) 64 ≡ true = eq-eqb (length line) 64 h in
         record { said = rw (t, e.0); line = rw t (e.1 ∙ ap (λ (n : ℕ). padded n (line_of a w)) h) }
 
 -- what was answered is the line's length, which a line holds
-pub answered-fits : (line : List ℕ) (a w : ℕ) {r : Line} {n : ℕ}
-    → line_said r ≡ line_answer line a w → r ≡ Length n → n ≤ 64
+pub answered-fits : (line : List ℕ) (a w : ℕ) {r : Option ℕ} {n : ℕ}
+    → line_said r ≡ line_answer line a w → r ≡ Some n → n ≤ 64
 answered-fits line a w {r} {n} e f = by (eqb (length line) 64) (sym (ap line_said f) ∙ e)
   where
     by : (b : Bool) → values n ≡ pick b (values (length (line_of a w))) (number 7) → n ≤ 64

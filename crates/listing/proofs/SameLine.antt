@@ -10,8 +10,7 @@ use Rattle.text.specs.Text.{bytes, Puts}
 use Rattle.text.specs.Numerals.{hex}
 use Rattle.text.proofs.Numerals.{hex-length}
 use Rattle.text.proofs.Same.{parts, hex-same}
-use Rattle.listing.specs.declared.Line.{Line}
-use Rattle.listing.specs.declared.Line.TheVariants.{Refused, Length}
+use Rattle.std.specs.Prelude.{Option, Some, None}
 use Rattle.listing.specs.Listing.{text_of, line_of, line_said, Lists}
 use Rattle.listing.proofs.Lines.{line-text}
 
@@ -34,18 +33,18 @@ same_line a w a' w' ha hw ha' hw' e =
     let address = parts 8 (hex-length a) (hex-length a') both.0 in
     (hex-same a a' ha ha' address.0, hex-same w w' hw hw' both.1, whole.1)
 
-abbrev line_from : Said ℕ → Line
-line_from (number n) = Refused
-line_from (values n) = Length n
+abbrev line_from : Said ℕ → Option ℕ
+line_from (number n) = None
+line_from (values n) = Some n
 
-line-back : (r : Line) → line_from (line_said r) ≡ r
-line-back Refused = refl
-line-back (Length n) = refl
+line-back : (r : Option ℕ) → line_from (line_said r) ≡ r
+line-back None = refl
+line-back (Some n) = refl
 
-line-apart : (r s : Line) → line_said r ≡ line_said s → r ≡ s
+line-apart : (r s : Option ℕ) → line_said r ≡ line_said s → r ≡ s
 line-apart = apart line_said line_from line-back
 
-pub line-unique : (before : List ℕ) (a w : ℕ) (r s : Line) (after after' : List ℕ) → Lists before a w r after → Lists before a w s after' → (r ≡ s) × (after ≡ after')
+pub line-unique : (before : List ℕ) (a w : ℕ) (r s : Option ℕ) (after after' : List ℕ) → Lists before a w r after → Lists before a w s after' → (r ≡ s) × (after ≡ after')
 line-unique before a w r s after after' p q = (line-apart r s (p.said ∙ sym q.said), p.line ∙ sym q.line)
 
 -- the same of a text that is put into a line

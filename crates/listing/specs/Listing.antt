@@ -1,14 +1,11 @@
 -- The line of a word, document 01's "The listing", as a list of bytes.
-use Rattle.std.specs.Prelude.{◌≡◌, List, [], ◌∷◌, ◌++◌, ℕ, ◌-◌, eqb, length, replicate}
+use Rattle.std.specs.Prelude.{◌≡◌, List, [], ◌∷◌, ◌++◌, ℕ, ◌-◌, eqb, length, replicate, Result, Option, Ok, Err, Some, None}
 use Rattle.isa.specs.declared.Width.{Width}
 use Rattle.isa.specs.declared.Width.TheVariants.{B, H, W, D}
-use Rattle.isa.specs.declared.Read.{Read}
-use Rattle.isa.specs.declared.Read.TheVariants.{Not, Instr}
+use Rattle.isa.specs.declared.Unread.{Unread}
 use Rattle.shown.specs.declared.Form.{Form}
 use Rattle.shown.specs.declared.Form.TheVariants.{Bare, Each, Whole}
 use Rattle.shown.specs.declared.Shown.{Shown}
-use Rattle.listing.specs.declared.Line.{Line}
-use Rattle.listing.specs.declared.Line.TheVariants.{Refused, Length}
 use Rattle.listing.specs.declared.Part.{Part}
 use Rattle.listing.specs.declared.Part.TheVariants.{Address, Word, Text, Blanks}
 use Rattle.fields.specs.Fields.{pick}
@@ -38,9 +35,9 @@ shown_text s = mnemonic s.name ++ form_text s.form ++ bytes " " ++ operands_text
 
 -- ---- a word
 
-abbrev pub read_text : Read → List ℕ
-read_text (Not u) = bytes "; " ++ decimal (unread_number u)
-read_text (Instr i) = shown_text (shown_of i)
+abbrev pub read_text : Result Ok Unread → List ℕ
+read_text (Err u) = bytes "; " ++ decimal (unread_number u)
+read_text (Ok i) = shown_text (shown_of i)
 
 abbrev pub text_of : ℕ → List ℕ
 text_of w = read_text (read_of w)
@@ -59,9 +56,9 @@ part_text line at Blanks = replicate (length line - at) 32
 
 -- ---- what writing a line promises
 
-abbrev pub line_said : Line → Said ℕ
-line_said Refused = number 7
-line_said (Length n) = values n
+abbrev pub line_said : Option ℕ → Said ℕ
+line_said None = number 7
+line_said (Some n) = values n
 
 -- a line of 64 bytes takes the text and then blanks; any other is refused, and stays as it is
 abbrev pub line_answer : List ℕ → ℕ → ℕ → Said ℕ
@@ -70,6 +67,6 @@ line_answer line address w = pick (eqb (length line) 64) (values (length (line_o
 abbrev pub line_after : List ℕ → ℕ → ℕ → List ℕ
 line_after line address w = pick (eqb (length line) 64) (padded 64 (line_of address w)) line
 
-pub record Lists (before : List ℕ) (address w : ℕ) (answer : Line) (after : List ℕ) : Type 0 where
+pub record Lists (before : List ℕ) (address w : ℕ) (answer : Option ℕ) (after : List ℕ) : Type 0 where
   pub said : line_said answer ≡ line_answer before address w
   pub line : after ≡ line_after before address w

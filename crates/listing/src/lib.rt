@@ -10,19 +10,12 @@ ghost use Rattle.listing.specs.declared.Part.TheVariants as part;
 ghost use Rattle.listing.specs.Listing as listing;
 ghost use Rattle.listing.specs.Listing.{part_text};
 
-use isa::{Read, Unread, Width};
+use isa::{Instr, Unread, Width};
 use mnemonics::put_name;
 use operands::put_operands;
 use reading::read_word;
 use shown::{Form, Shown, shown_of};
 use text::{blank, put_byte, put_decimal, put_hex, put_text};
-
-// What writing a line answers: 7, or the line's length.
-#[derive(Clone, Copy)]
-pub enum Line {
-    Refused,
-    Length(usize),
-}
 
 // A line's parts: the address with ": ", the word with a blank, the word's text, and blanks up to the line's end.
 #[derive(Clone, Copy)]
@@ -78,12 +71,12 @@ fn put_shown(line: &mut [u8], at: usize, s: Shown) -> usize
     put_operands(line, first_at, a, b, c, d)
 }
 
-fn read_number(r: Read) -> u32
+fn read_number(r: Result<Instr, Unread>) -> u32
     ensures { result ≡ number_in (read_said r) }
 {
     match r {
-        Read::Not(u) => unread_number(u),
-        Read::Instr(_) => 0,
+        Err(u) => unread_number(u),
+        Ok(_) => 0,
     }
 }
 
@@ -105,11 +98,11 @@ fn put_reason(line: &mut [u8], at: usize, number: u32) -> usize
     put_decimal(line, next, number)
 }
 
-fn put_read(line: &mut [u8], at: usize, read: Read) -> usize
+fn put_read(line: &mut [u8], at: usize, read: Result<Instr, Unread>) -> usize
     requires { Room line.old at (listing.read_text read) }
     ensures { Puts line.old at (listing.read_text read) line.new result }
 {
-    let Read::Instr(i) = read else {
+    let Ok(i) = read else {
         return put_reason(line, at, read_number(read));
     };
     put_shown(line, at, shown_of(i))

@@ -1,7 +1,8 @@
 -- A step ends as its word says of stops, whatever the vector registers hold. Assumes nothing.
 use Rattle.std.proofs.Common.{◌≡◌, ℕ, List, length, refl, ap, ◌∙◌}
-use Rattle.isa.specs.declared.Read.{Read}
-use Rattle.isa.specs.declared.Read.TheVariants as read
+use Rattle.std.specs.Prelude.{Ok, Err, Some, None, Result, Option}
+use Rattle.isa.specs.declared.Unread.{Unread}
+use Rattle.isa.specs.declared.Instr.{Instr}
 use Rattle.plan.specs.declared.Plan.{Plan}
 use Rattle.plan.specs.declared.Plan.TheVariants as plan
 use Rattle.plan.specs.Ahead.{stop_in, stop_ahead}
@@ -11,8 +12,6 @@ use Rattle.reading.specs.Ahead.{ahead_of}
 use Rattle.reading.specs.Reading.{read_of}
 use Rattle.state.specs.declared.board.Board.{Board}
 use Rattle.state.specs.declared.control.Control.{Control}
-use Rattle.state.specs.declared.fetch.Fetched.{Fetched}
-use Rattle.state.specs.declared.fetch.Fetched.TheVariants as fetch
 use Rattle.state.specs.Fetch.{fetched}
 use Rattle.state.specs.Machine.{Env, Machine, env, machine}
 use Rattle.machine.specs.Ahead.{end_as, end_at, end_of}
@@ -34,14 +33,14 @@ module _ (b : Board) (t v g w : List ℕ) (c : Control) where
   abbrev whole : Machine
   whole = machine v g w c
 
-  decided-ends : (r : Read)
+  decided-ends : (r : Result Instr Unread)
       → (decided r here whole).outcome ≡ end_as (stop_ahead (ahead_of r) b (length t) g (length w) c)
-  decided-ends (read.Not u) = refl
-  decided-ends (read.Instr i) = plan-ends (plan_of here whole i) ∙ ap end_as (planned-stops b t v g w c i)
+  decided-ends (Err u) = refl
+  decided-ends (Ok i) = plan-ends (plan_of here whole i) ∙ ap end_as (planned-stops b t v g w c i)
 
-  attempted-ends : (f : Fetched) → (attempted f here whole).outcome ≡ end_at f b t g w c
-  attempted-ends (fetch.Word x) = decided-ends (read_of x)
-  attempted-ends fetch.NoWord = refl
+  attempted-ends : (f : Option ℕ) → (attempted f here whole).outcome ≡ end_at f b t g w c
+  attempted-ends (Some x) = decided-ends (read_of x)
+  attempted-ends None = refl
 
   pub step-ends : (p : List ℕ) → (step_of p here whole).outcome ≡ end_of p b t g w c
   unfolding step_of

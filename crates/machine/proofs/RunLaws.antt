@@ -1,34 +1,30 @@
 -- Laws of a run: what one more step adds, and how it ends.
 use Rattle.std.proofs.Common.{◌≡◌, ℕ, suc, ◌+◌, ◌-◌, ◌<◌, ◌≤◌, List, sym, refl, ap, ◌∙◌, add-zero, add_assoc, zero-add, arith}
-use Rattle.isa.specs.declared.Read.{Read}
-use Rattle.isa.specs.declared.Read.TheVariants.{Not, Instr}
+use Rattle.std.specs.Prelude.{Ok, Err, Some, None, Result, Option, ⊤}
+use Rattle.isa.specs.declared.Unread.{Unread}
 use Rattle.reading.specs.Reading.{read_of}
 use Rattle.plan.specs.declared.Plan.{Plan}
 use Rattle.plan.specs.declared.Plan.TheVariants as plan
 use Rattle.plan.specs.Plan.{plan_of}
 use Rattle.state.specs.declared.control.Control.{Control}
-use Rattle.state.specs.declared.fetch.Fetched.{Fetched}
-use Rattle.state.specs.declared.fetch.Fetched.TheVariants.{Word, NoWord}
 use Rattle.state.specs.declared.stops.Stop.{Stop}
 use Rattle.state.specs.Fetch.{fetched}
 use Rattle.state.specs.Machine.{Env, Machine, machine}
-use Rattle.machine.specs.declared.step.Outcome.{Outcome}
-use Rattle.machine.specs.declared.step.Outcome.TheVariants.{Finished, Stopped}
 use Rattle.machine.specs.declared.step.Stepped.{Stepped}
 use Rattle.machine.specs.declared.run.Ended.{Ended}
 use Rattle.machine.specs.declared.run.Reason.{Reason}
 use Rattle.machine.specs.declared.run.Reason.TheVariants as reason
 use Rattle.machine.specs.Numbers.{reason_number, reason_carried}
 use Rattle.machine.specs.Run.{Run, RunIs, runs, adding, ended, onward, outcome_in, stepped_as}
-use Rattle.machine.specs.Step.{Result, result, StepIs, step_of, concluded, decided, attempted}
+use Rattle.machine.specs.Step.{Ending, result, StepIs, step_of, concluded, decided, attempted}
 use Rattle.machine.proofs.Said.{reason-is}
 
 -- a step that stops leaves the machine as it was
 module _ (e : Env) (m : Machine) (s : Stop) where
-  abbrev Kept : Result → Type 0
-  Kept r = r.outcome ≡ Stopped s → r.after ≡ m
+  abbrev Kept : Ending → Type 0
+  Kept r = r.outcome ≡ Err s → r.after ≡ m
 
-  clash : {A : Type 0} → Finished ≡ Stopped s → A
+  clash : {A : Type 0} → (Ok tt) ≡ Err s → A
   clash h = let z : ◌≡◌ {A = ℕ} 0 1 = cc in absurd (omega arith)
 
   concluded-kept : (p : Plan) → Kept (concluded e.board.work p m)
@@ -40,15 +36,15 @@ module _ (e : Env) (m : Machine) (s : Stop) where
   concluded-kept (plan.Csr x) h = clash h
   concluded-kept (plan.Branch k) h = clash h
 
-  decided-kept : (r : Read) → Kept (decided r e m)
-  decided-kept (Not u) h = refl
-  decided-kept (Instr i) h = concluded-kept (plan_of e m i) h
+  decided-kept : (r : Result Ok Unread) → Kept (decided r e m)
+  decided-kept (Err u) h = refl
+  decided-kept (Ok i) h = concluded-kept (plan_of e m i) h
 
-  attempted-kept : (f : Fetched) → Kept (attempted f e m)
-  attempted-kept (Word w) h = decided-kept (read_of w) h
-  attempted-kept NoWord h = refl
+  attempted-kept : (f : Option ℕ) → Kept (attempted f e m)
+  attempted-kept (Some w) h = decided-kept (read_of w) h
+  attempted-kept None h = refl
 
-pub stop-keeps : (p : List ℕ) (e : Env) (m : Machine) (s : Stop) → (step_of p e m).outcome ≡ Stopped s → (step_of p e m).after ≡ m
+pub stop-keeps : (p : List ℕ) (e : Env) (m : Machine) (s : Stop) → (step_of p e m).outcome ≡ Err s → (step_of p e m).after ≡ m
 unfolding step_of
 stop-keeps p e m s = attempted-kept e m s (fetched p e.board.program m.ctl.pc)
 
@@ -57,11 +53,11 @@ pub same-machine : (m : Machine) (v g w : List ℕ) (c : Control) → v ≡ m.ve
 same-machine m v g w c pv pg pw pc = sym (λ j. machine (pv j) (pg j) (pw j) (pc j))
 
 module _ (p : List ℕ) (e : Env) (m : Machine) (k : ℕ) where
-  pub runs-finished : (step_of p e m).outcome ≡ Finished → runs p e (suc k) m ≡ adding 1 (runs p e k (step_of p e m).after)
+  pub runs-finished : (step_of p e m).outcome ≡ Ok tt → runs p e (suc k) m ≡ adding 1 (runs p e k (step_of p e m).after)
   unfolding runs
   runs-finished h = rw h
 
-  pub runs-stopped : (s : Stop) → (step_of p e m).outcome ≡ Stopped s → runs p e (suc k) m ≡ ended (reason.Stopped s) m
+  pub runs-stopped : (s : Stop) → (step_of p e m).outcome ≡ Err s → runs p e (suc k) m ≡ ended (reason.Stopped s) m
   unfolding runs
   runs-stopped s h = rw (h, stop-keeps p e m s h)
 
@@ -95,7 +91,7 @@ ends_is whole why count m ends =
 
 module _ (p : List ℕ) (e : Env) (budget count : ℕ) (m : Machine) (whole : Run) (i : Sofar p e budget count m whole) where
   -- one more finished step
-  pub sofar-more : count < budget → (t : Stepped) (v g w : List ℕ) → StepIs (step_of p e m) t v g w → t.outcome ≡ Finished
+  pub sofar-more : count < budget → (t : Stepped) (v g w : List ℕ) → StepIs (step_of p e m) t v g w → t.outcome ≡ Ok tt
       → Sofar p e budget (count + 1) (machine v g w t.control) whole
   sofar-more h t v g w s o =
       let k : budget - count ≡ suc (budget - (count + 1)) = omega arith in
@@ -106,11 +102,11 @@ module _ (p : List ℕ) (e : Env) (budget count : ℕ) (m : Machine) (whole : Ru
       ∙ i
 
   -- a stop ends it with its reason, at the machine as it was
-  pub sofar-stopped : count < budget → (x : Stop) (t : Stepped) (v g w : List ℕ) → StepIs (step_of p e m) t v g w → t.outcome ≡ Stopped x
+  pub sofar-stopped : count < budget → (x : Stop) (t : Stepped) (v g w : List ℕ) → StepIs (step_of p e m) t v g w → t.outcome ≡ Err x
       → RunIs whole (record { reason = reason.Stopped x; count = count; control = m.ctl }) v g w
   sofar-stopped h x t v g w s o =
       let k : budget - count ≡ suc (budget - (count + 1)) = omega arith in
-      let stop : (step_of p e m).outcome ≡ Stopped x = sym s.outcome ∙ o in
+      let stop : (step_of p e m).outcome ≡ Err x = sym s.outcome ∙ o in
       let kept = stop-keeps p e m x stop in
       let r = ends_is whole (reason.Stopped x) count m
       (ap (adding count) (sym (ap (λ n. runs p e n m) k ∙ runs-stopped p e m (budget - (count + 1)) x stop)) ∙ i)
@@ -133,11 +129,11 @@ module _ (p : List ℕ) (e : Env) (budget count : ℕ) (m : Machine) (whole : Ru
       ends_is whole reason.Spent count m (ap (λ n. adding count (runs p e n m)) (sym k) ∙ i)
 
 -- a run of one instruction is a step
-single : (o : Outcome) (m : Machine) (r : Ended) (v g w : List ℕ) → RunIs (onward o m (ended reason.Spent m)) r v g w
+single : (o : Result ⊤ Stop) (m : Machine) (r : Ended) (v g w : List ℕ) → RunIs (onward o m (ended reason.Spent m)) r v g w
     → StepIs (result o m) (stepped_as r) v g w
-single Finished m r v g w i =
+single (Ok tt) m r v g w i =
     record { outcome = ap outcome_in (reason-is i); control = i.control; vec = i.vec; gen = i.gen; work = i.work }
-single (Stopped s) m r v g w i =
+single (Err s) m r v g w i =
     record { outcome = ap outcome_in (reason-is i); control = i.control; vec = i.vec; gen = i.gen; work = i.work }
 
 pub one-step : (p : List ℕ) (e : Env) (m : Machine) (r : Ended) (v g w : List ℕ) → RunIs (runs p e 1 m) r v g w

@@ -4,9 +4,9 @@ use Rattle.isa.proofs.Apart.{apart}
 use Rattle.state.proofs.Named.{Named, refused, stopped, neither, named, named-refusal, named-stop}
 use Rattle.machine.specs.declared.run.Reason.{Reason}
 use Rattle.machine.specs.declared.run.Reason.TheVariants as reason
-use Rattle.machine.specs.declared.step.Answer.{Answer}
-use Rattle.machine.specs.declared.step.Answer.TheVariants.{Refused, Ran}
-use Rattle.machine.specs.declared.step.Outcome.TheVariants.{Finished, Stopped}
+use Rattle.std.specs.Prelude.{Ok, Err, Result, ⊤}
+use Rattle.state.specs.declared.stops.Stop.{Stop}
+use Rattle.state.specs.declared.setup.Refusal.{Refusal}
 use Rattle.machine.specs.declared.run.Ended.{Ended}
 use Rattle.machine.specs.declared.step.Answered.{Answered}
 use Rattle.machine.specs.declared.why.Cause.{Cause}
@@ -22,17 +22,17 @@ told : {A : Type 0} (number carried : A → ℕ) (from : Named → A)
 told number carried from back a b e f =
     apart {B = ℕ × ℕ} (λ x. (number x, carried x)) (λ t. from (named t.0 t.1)) back a b (λ k. (e k, f k))
 
-abbrev as_answer : Named → Answer
-as_answer (refused r) = Refused r
-as_answer (stopped s) = Ran (Stopped s)
-as_answer neither = Ran Finished
+abbrev as_answer : Named → Result (Result ⊤ Stop) Refusal
+as_answer (refused r) = Err r
+as_answer (stopped s) = Ok (Err s)
+as_answer neither = Ok (Ok tt)
 
-answer_back : (a : Answer) → as_answer (named (answer_number a) (answer_carried a)) ≡ a
-answer_back (Refused r) = ap as_answer (named-refusal r 0)
-answer_back (Ran Finished) = refl
-answer_back (Ran (Stopped s)) = ap as_answer (named-stop s)
+answer_back : (a : Result (Result ⊤ Stop) Refusal) → as_answer (named (answer_number a) (answer_carried a)) ≡ a
+answer_back (Err r) = ap as_answer (named-refusal r 0)
+answer_back (Ok (Ok tt)) = refl
+answer_back (Ok (Err s)) = ap as_answer (named-stop s)
 
-answer-told : (a b : Answer) → answer_number a ≡ answer_number b → answer_carried a ≡ answer_carried b → a ≡ b
+answer-told : (a b : Result (Result ⊤ Stop) Refusal) → answer_number a ≡ answer_number b → answer_carried a ≡ answer_carried b → a ≡ b
 answer-told = told answer_number answer_carried as_answer answer_back
 
 pub answer-is : {s : Whole} {r : Answered} {v g w : List ℕ} → WholeIs s r v g w → r.answer ≡ s.answer

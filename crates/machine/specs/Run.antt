@@ -1,14 +1,12 @@
 -- A run: 20 is tested before each step, then the step is made.
-use Rattle.std.specs.Prelude.{◌≡◌, ℕ, zero, suc, ◌+◌, List}
-use Rattle.state.specs.declared.setup.Setup.{Setup}
-use Rattle.state.specs.declared.setup.Setup.TheVariants as setup
+use Rattle.std.specs.Prelude.{◌≡◌, ℕ, zero, suc, ◌+◌, List, Ok, Err, Result, ⊤}
+use Rattle.state.specs.declared.setup.Refusal.{Refusal}
+use Rattle.state.specs.declared.stops.Stop.{Stop}
 use Rattle.state.specs.Machine.{Env, Machine}
 use Rattle.state.specs.Setup.{refusal}
 use Rattle.machine.specs.declared.run.Ended.{Ended}
 use Rattle.machine.specs.declared.run.Reason.{Reason}
 use Rattle.machine.specs.declared.run.Reason.TheVariants as reason
-use Rattle.machine.specs.declared.step.Outcome.{Outcome}
-use Rattle.machine.specs.declared.step.Outcome.TheVariants.{Finished, Stopped}
 use Rattle.machine.specs.declared.step.Stepped.{Stepped}
 use Rattle.machine.specs.Numbers.{reason_number, reason_carried}
 use Rattle.machine.specs.Step.{step_of}
@@ -27,27 +25,27 @@ abbrev pub adding : ℕ → Run → Run
 adding n r = record { reason = r.reason; count = n + r.count; after = r.after }
 
 -- after a step: the rest of the run where it was finished
-abbrev pub onward : Outcome → Machine → Run → Run
-onward Finished m rest = adding 1 rest
-onward (Stopped s) m rest = ended (reason.Stopped s) m
+abbrev pub onward : Result ⊤ Stop → Machine → Run → Run
+onward (Ok tt) m rest = adding 1 rest
+onward (Err s) m rest = ended (reason.Stopped s) m
 
 unfoldable pub runs : List ℕ → Env → ℕ → Machine → Run
 runs program e zero m = ended reason.Spent m
 runs program e (suc budget) m = onward (step_of program e m).outcome (step_of program e m).after (runs program e budget (step_of program e m).after)
 
 -- how a step ends that is made as a run of one instruction
-abbrev pub outcome_in : Reason → Outcome
-outcome_in (reason.Refused r) = Finished
-outcome_in (reason.Stopped s) = Stopped s
-outcome_in reason.Spent = Finished
+abbrev pub outcome_in : Reason → Result ⊤ Stop
+outcome_in (reason.Refused r) = Ok tt
+outcome_in (reason.Stopped s) = Err s
+outcome_in reason.Spent = Ok tt
 
 abbrev pub stepped_as : Ended → Stepped
 stepped_as r = record { outcome = outcome_in r.reason; control = r.control }
 
 -- a run with its set-up limits: a refused one has count 0 and changes nothing
-abbrev pub admitted : Setup → Run → Machine → Run
-admitted setup.Accepted r m = r
-admitted (setup.Refused x) r m = ended (reason.Refused x) m
+abbrev pub admitted : Result ⊤ Refusal → Run → Machine → Run
+admitted (Ok tt) r m = r
+admitted (Err x) r m = ended (reason.Refused x) m
 
 abbrev pub whole_run : List ℕ → Env → ℕ → Machine → Run
 whole_run program e budget m = admitted (refusal program e m) (runs program e budget m) m

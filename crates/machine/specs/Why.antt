@@ -1,26 +1,20 @@
 -- Why the next step would stop (request 6/12): how it would end, by the step itself, and behind a stop the word and the
 -- fact. The call is lent everything for reading, so there is nothing after it to say.
-use Rattle.std.specs.Prelude.{◌≡◌, ℕ, List}
-use Rattle.state.specs.declared.fetch.Fetched.{Fetched}
-use Rattle.state.specs.declared.fetch.Fetched.TheVariants as fetch
-use Rattle.state.specs.declared.setup.Setup.{Setup}
-use Rattle.state.specs.declared.setup.Setup.TheVariants as setup
+use Rattle.std.specs.Prelude.{◌≡◌, ℕ, List, Ok, Err, Some, None, Result, Option, ⊤}
+use Rattle.state.specs.declared.setup.Refusal.{Refusal}
 use Rattle.state.specs.declared.stops.Stop.{Stop}
 use Rattle.state.specs.declared.stops.Stop.TheVariants as stop
 use Rattle.state.specs.Fetch.{fetched}
 use Rattle.state.specs.Machine.{Env, Machine}
 use Rattle.state.specs.Setup.{refusal}
-use Rattle.machine.specs.declared.step.Answer.TheVariants.{Refused, Ran}
-use Rattle.machine.specs.declared.step.Outcome.{Outcome}
-use Rattle.machine.specs.declared.step.Outcome.TheVariants.{Finished, Stopped}
 use Rattle.machine.specs.declared.why.Cause.{Cause}
 use Rattle.machine.specs.Numbers.{answer_number, answer_carried}
 use Rattle.machine.specs.Step.{step_of}
 
 -- the word at the counter, and 0 where there is none
-abbrev pub word_here : Fetched → ℕ
-word_here (fetch.Word w) = w
-word_here fetch.NoWord = 0
+abbrev pub word_here : Option ℕ → ℕ
+word_here (Some w) = w
+word_here None = 0
 
 -- the word behind a stop, where the word w stands at the counter: of 11 there is none, 0
 abbrev pub stop_word : ℕ → Stop → ℕ
@@ -44,18 +38,18 @@ stop_fact pc w (stop.ReadOnly x) = x
 stop_fact pc w (stop.Trap bits) = bits
 
 -- word and fact are 0 where the instruction would be finished
-abbrev pub cause_of : ℕ → ℕ → Outcome → Cause
-cause_of pc w Finished = record { answer = Ran Finished; word = 0; fact = 0 }
-cause_of pc w (Stopped s) = record { answer = Ran (Stopped s); word = stop_word w s; fact = stop_fact pc w s }
+abbrev pub cause_of : ℕ → ℕ → Result ⊤ Stop → Cause
+cause_of pc w (Ok tt) = record { answer = Ok (Ok tt); word = 0; fact = 0 }
+cause_of pc w (Err s) = record { answer = Ok (Err s); word = stop_word w s; fact = stop_fact pc w s }
 
 unfoldable pub next_of : List ℕ → Env → Machine → Cause
 next_of p e m =
     cause_of m.ctl.pc (word_here (fetched p e.board.program m.ctl.pc)) (step_of p e m).outcome
 
 -- with its set-up limits: a refused one has no word and no fact
-abbrev pub unless_refused : Setup → Cause → Cause
-unless_refused setup.Accepted y = y
-unless_refused (setup.Refused r) y = record { answer = Refused r; word = 0; fact = 0 }
+abbrev pub unless_refused : Result ⊤ Refusal → Cause → Cause
+unless_refused (Ok tt) y = y
+unless_refused (Err r) y = record { answer = Err r; word = 0; fact = 0 }
 
 abbrev pub why_of : List ℕ → Env → Machine → Cause
 why_of p e m = unless_refused (refusal p e m) (next_of p e m)

@@ -1,6 +1,5 @@
 // What an instruction does, once it is read: its plan is made, and done.
-ghost use Rattle.std.specs.Prelude.{◌≡◌, length};
-ghost use Rattle.isa.specs.declared.Read.TheVariants as read;
+ghost use Rattle.std.specs.Prelude.{◌≡◌, length, Ok};
 ghost use Rattle.plan.specs.There.{There};
 ghost use Rattle.state.specs.Machine.{env, machine};
 ghost use Rattle.words.specs.Formed.{Formed};
@@ -46,7 +45,7 @@ pub fn act(
     c: Control,
 ) -> Stepped
     requires { (length vectors.old ≡ 512) × (length generals.old ≡ 256) × Formed i }
-    ensures { StepIs (decided (read.Instr i) (env board table.now)
+    ensures { StepIs (decided (Ok i) (env board table.now)
         (machine vectors.old generals.old work.old c))
         result vectors.new generals.new work.new }
 {

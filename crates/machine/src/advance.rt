@@ -5,13 +5,12 @@ ghost use Rattle.state.specs.Machine.{env, machine};
 ghost use Rattle.machine.specs.Step.{unread_stop, stopped_with, step_of, StepIs};
 
 use crate::act::act;
-use crate::step::{Outcome, Stepped};
-use isa::Read;
+use crate::step::Stepped;
+use isa::{Instr, Unread};
 use reading::read_word;
 use state::board::Board;
 use state::control::Control;
 use state::fetch;
-use state::fetch::Fetched;
 use state::stops::Stop;
 
 // A stop of an accepted step: nothing is changed.
@@ -19,18 +18,18 @@ pub fn stopped(s: Stop, c: Control) -> Stepped
     ensures { result ≡ stopped_with s c }
 {
     Stepped {
-        outcome: Outcome::Stopped(s),
+        outcome: Err(s),
         control: c,
     }
 }
 
 // 12, 13 or 14 of a word that reads as no instruction.
-fn unread_stop(r: Read) -> Stop
+fn unread_stop(r: Result<Instr, Unread>) -> Stop
     ensures { result ≡ unread_stop r }
 {
     match r {
-        Read::Not(u) => Stop::Unread(u),
-        Read::Instr(_) => Stop::NoWord,
+        Err(u) => Stop::Unread(u),
+        Ok(_) => Stop::NoWord,
     }
 }
 
@@ -47,11 +46,11 @@ pub fn advance(
     requires { (length vectors.old ≡ 512) × (length generals.old ≡ 256) }
     ensures { StepIs (step_of program.now (env board table.now) (machine vectors.old generals.old work.old c)) result vectors.new generals.new work.new }
 {
-    let Fetched::Word(w) = fetch::word_at(program, board.program, c.pc) else {
+    let Some(w) = fetch::word_at(program, board.program, c.pc) else {
         return stopped(Stop::NoWord, c);
     };
     let reading = read_word(w);
-    let Read::Instr(i) = reading else {
+    let Ok(i) = reading else {
         return stopped(unread_stop(reading), c);
     };
     act(i, board, table, vectors, generals, work, c)

@@ -3,23 +3,20 @@
 ghost use Rattle.std.specs.Prelude.{◌≡◌, length};
 ghost use Rattle.machine.specs.Ahead.{end_as, end_of};
 
-use crate::step::Outcome;
 use plan::ahead::stop_ahead;
-use plan::planned::Early;
 use reading::ahead::ahead_of;
 use state::board::Board;
 use state::control::Control;
 use state::fetch;
-use state::fetch::Fetched;
 use state::stops::Stop;
 
 // How a step ends that this stops, or that nothing does.
-fn end_as(e: Early) -> Outcome
+fn end_as(e: Result<(), Stop>) -> Result<(), Stop>
     ensures { result ≡ end_as e }
 {
     match e {
-        Early::Go => Outcome::Finished,
-        Early::Stops(s) => Outcome::Stopped(s),
+        Ok(()) => Ok(()),
+        Err(s) => Err(s),
     }
 }
 
@@ -31,13 +28,13 @@ pub fn end_of(
     generals: &[u8],
     work: &[u8],
     c: Control,
-) -> Outcome
+) -> Result<(), Stop>
     requires { length generals.now ≡ 256 }
     ensures { result ≡ end_of program.now board table.now generals.now
         work.now c }
 {
-    let Fetched::Word(w) = fetch::word_at(program, board.program, c.pc) else {
-        return Outcome::Stopped(Stop::NoWord);
+    let Some(w) = fetch::word_at(program, board.program, c.pc) else {
+        return Err(Stop::NoWord);
     };
     end_as(stop_ahead(ahead_of(w), board, table.len(), generals, work.len(), c))
 }

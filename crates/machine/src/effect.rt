@@ -5,25 +5,25 @@ ghost use Rattle.plan.specs.There.{There};
 ghost use Rattle.machine.specs.Step.{outcome_of};
 ghost use Rattle.machine.specs.Effect.{with_general, vectors_after, generals_after, work_after, pc_after, forwarded, control_after};
 
-use crate::step::Outcome;
 use isa::Greg;
 use memory::file::write_register;
 use plan::Plan;
 use state::control::{Control, Mark};
+use state::stops::Stop;
 use std::num::wrapping_add_u64;
 
 // How a step with this plan ends.
-pub fn outcome_of(p: Plan) -> Outcome
+pub fn outcome_of(p: Plan) -> Result<(), Stop>
     ensures { result ≡ outcome_of p }
 {
     match p {
-        Plan::Stop(s) => Outcome::Stopped(s),
-        Plan::Nothing => Outcome::Finished,
-        Plan::Vector(_, _) => Outcome::Finished,
-        Plan::General(_, _) => Outcome::Finished,
-        Plan::Store(_, _) => Outcome::Finished,
-        Plan::Csr(_) => Outcome::Finished,
-        Plan::Branch(_) => Outcome::Finished,
+        Plan::Stop(s) => Err(s),
+        Plan::Nothing => Ok(()),
+        Plan::Vector(_, _) => Ok(()),
+        Plan::General(_, _) => Ok(()),
+        Plan::Store(_, _) => Ok(()),
+        Plan::Csr(_) => Ok(()),
+        Plan::Branch(_) => Ok(()),
     }
 }
 

@@ -6,7 +6,7 @@ use crate::turns::turns;
 use state::board::Board;
 use state::control::Control;
 use state::setup;
-use state::setup::{Refusal, Setup};
+use state::setup::Refusal;
 use state::stops::Stop;
 
 // Why a run ended.
@@ -39,8 +39,8 @@ pub fn run(
     ensures { RunIs (whole_run program.now (env board table.now) budget (machine vectors.old generals.old work.old c)) result vectors.new generals.new work.new }
 {
     match setup::check(board, program, table, vectors, generals, work, c) {
-        Setup::Accepted => turns(board, program, table, vectors, generals, work, c, budget),
-        Setup::Refused(r) => Ended {
+        Ok(()) => turns(board, program, table, vectors, generals, work, c, budget),
+        Err(r) => Ended {
             reason: Reason::Refused(r),
             count: 0,
             control: c,

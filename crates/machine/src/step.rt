@@ -7,34 +7,20 @@ use crate::turns::{as_step, turns};
 use state::board::Board;
 use state::control::Control;
 use state::setup;
-use state::setup::{Refusal, Setup};
+use state::setup::Refusal;
 use state::stops::Stop;
 
-// How a step of an accepted set-up ends.
-#[derive(Clone, Copy)]
-pub enum Outcome {
-    Finished,
-    Stopped(Stop),
-}
-
-// The outcome, with the control block after it.
+// How a step of an accepted set-up ends, finished or stopped, with the control block after it.
 #[derive(Clone, Copy)]
 pub struct Stepped {
-    pub outcome: Outcome,
+    pub outcome: Result<(), Stop>,
     pub control: Control,
 }
 
-// How a step ends: refused at set-up, or as its outcome says.
-#[derive(Clone, Copy)]
-pub enum Answer {
-    Refused(Refusal),
-    Ran(Outcome),
-}
-
-// What a step answers, with the control block after it.
+// How a step ends: refused at set-up, or as its outcome says; with the control block after it.
 #[derive(Clone, Copy)]
 pub struct Answered {
-    pub answer: Answer,
+    pub answer: Result<Result<(), Stop>, Refusal>,
     pub control: Control,
 }
 
@@ -45,7 +31,7 @@ fn ran(s: Stepped) -> Answered
     let control = s.control;
     let outcome = s.outcome;
     Answered {
-        answer: Answer::Ran(outcome),
+        answer: Ok(outcome),
         control,
     }
 }
@@ -63,12 +49,12 @@ pub fn step(
     ensures { WholeIs (whole_step program.now (env board table.now) (machine vectors.old generals.old work.old c)) result vectors.new generals.new work.new }
 {
     match setup::check(board, program, table, vectors, generals, work, c) {
-        Setup::Accepted => {
+        Ok(()) => {
             let e = turns(board, program, table, vectors, generals, work, c, 1);
             ran(as_step(e))
         }
-        Setup::Refused(r) => Answered {
-            answer: Answer::Refused(r),
+        Err(r) => Answered {
+            answer: Err(r),
             control: c,
         },
     }

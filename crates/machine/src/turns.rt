@@ -6,7 +6,7 @@ ghost use Rattle.machine.specs.Run.{runs, RunIs, stepped_as};
 
 use crate::advance::advance;
 use crate::run::{Ended, Reason};
-use crate::step::{Outcome, Stepped};
+use crate::step::Stepped;
 use state::board::Board;
 use state::control::Control;
 
@@ -32,7 +32,7 @@ pub fn turns(
         let s = advance(board, program, table, vectors, generals, work, control);
         let outcome = s.outcome;
         match outcome {
-            Outcome::Finished => {
+            Ok(()) => {
                 let next = s.control;
                 let mark = next.mark;
                 control = Control {
@@ -43,7 +43,7 @@ pub fn turns(
                 };
                 count += 1;
             }
-            Outcome::Stopped(stop) => {
+            Err(stop) => {
                 return Ended {
                     reason: Reason::Stopped(stop),
                     count,
@@ -67,15 +67,15 @@ pub fn as_step(e: Ended) -> Stepped
     let reason = e.reason;
     match reason {
         Reason::Refused(_) => Stepped {
-            outcome: Outcome::Finished,
+            outcome: Ok(()),
             control,
         },
         Reason::Stopped(s) => Stepped {
-            outcome: Outcome::Stopped(s),
+            outcome: Err(s),
             control,
         },
         Reason::Spent => Stepped {
-            outcome: Outcome::Finished,
+            outcome: Ok(()),
             control,
         },
     }

@@ -5,29 +5,27 @@ ghost use Rattle.state.specs.Machine.{env, machine};
 ghost use Rattle.machine.specs.Why.{word_here, stop_word, stop_fact, cause_of, next_of, why_of, WhyIs};
 
 use crate::ahead::end_of;
-use crate::step::{Answer, Outcome};
 use state::board::Board;
 use state::control::Control;
-use state::fetch::Fetched;
-use state::setup::Setup;
+use state::setup::Refusal;
 use state::stops::Stop;
 use state::{fetch, setup};
 
 // How the step would end, and the word and the fact behind a stop: 0 where there is none.
 #[derive(Clone, Copy)]
 pub struct Cause {
-    pub answer: Answer,
+    pub answer: Result<Result<(), Stop>, Refusal>,
     pub word: u32,
     pub fact: u64,
 }
 
 // The word that was fetched, 0 where there is none.
-fn word_here(f: Fetched) -> u32
+fn word_here(f: Option<u32>) -> u32
     ensures { result ≡ word_here f }
 {
     match f {
-        Fetched::Word(w) => w,
-        Fetched::NoWord => 0,
+        Some(w) => w,
+        None => 0,
     }
 }
 
@@ -62,17 +60,17 @@ fn fact_of(s: Stop, pc: u64, w: u32) -> u64
 }
 
 // What is told of a step that ends so, at the counter pc, where the word w stands.
-fn cause_of(o: Outcome, pc: u64, w: u32) -> Cause
+fn cause_of(o: Result<(), Stop>, pc: u64, w: u32) -> Cause
     ensures { result ≡ cause_of pc w o }
 {
     match o {
-        Outcome::Finished => Cause {
-            answer: Answer::Ran(Outcome::Finished),
+        Ok(()) => Cause {
+            answer: Ok(Ok(())),
             word: 0,
             fact: 0,
         },
-        Outcome::Stopped(s) => Cause {
-            answer: Answer::Ran(Outcome::Stopped(s)),
+        Err(s) => Cause {
+            answer: Ok(Err(s)),
             word: word_of(s, w),
             fact: fact_of(s, pc, w),
         },
@@ -111,9 +109,9 @@ pub fn why(
         (machine vectors.now generals.now work.now c)) result }
 {
     match setup::check(board, program, table, vectors, generals, work, c) {
-        Setup::Accepted => next(board, program, table, vectors, generals, work, c),
-        Setup::Refused(r) => Cause {
-            answer: Answer::Refused(r),
+        Ok(()) => next(board, program, table, vectors, generals, work, c),
+        Err(r) => Cause {
+            answer: Err(r),
             word: 0,
             fact: 0,
         },

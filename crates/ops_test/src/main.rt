@@ -6,7 +6,7 @@
 ghost use Rattle.std.specs.Prelude.{◌≡◌, ◌≤◌, length, IfOk};
 
 use isa::Vreg;
-use machine::step::{Answer, Outcome, step};
+use machine::step::step;
 use memory::file::write_register;
 use memory::{eight, put_eight, sixteen};
 use order::Order;
@@ -49,13 +49,13 @@ fn set_result(v: &mut [u8], g: &mut [u8], r: [u8; 100])
     }
 }
 
-fn finished(answer: Answer) -> bool {
+fn finished(answer: Result<Result<(), Stop>, Refusal>) -> bool {
     match answer {
-        Answer::Ran(outcome) => match outcome {
-            Outcome::Finished => true,
-            Outcome::Stopped(_) => false,
+        Ok(outcome) => match outcome {
+            Ok(()) => true,
+            Err(_) => false,
         },
-        Answer::Refused(_) => false,
+        Err(_) => false,
     }
 }
 

@@ -12,7 +12,7 @@ ghost use Rattle.order.specs.Moved.{neighbour, Lower, Moved, Size};
 use isa::Width;
 use memory::Register;
 
-#[derive(Clone, Copy)]
+#[derive(Clone, Copy, Debug, PartialEq, Eq)]
 pub enum Order {
     Little,
     Big,

@@ -8,8 +8,9 @@ use Rattle.isa.specs.declared.Instr.{Instr}
 use Rattle.isa.specs.declared.Instr.TheVariants as instr
 use Rattle.isa.specs.declared.Memory.{Memory}
 use Rattle.isa.specs.declared.Memory.TheVariants.{Ld, St}
-use Rattle.isa.specs.declared.Read.{Read}
-use Rattle.isa.specs.declared.Read.TheVariants as read
+use Rattle.std.specs.Prelude.{Ok, Err, Result, ⊤}
+use Rattle.isa.specs.declared.Unread.{Unread}
+use Rattle.state.specs.declared.stops.Stop.{Stop}
 use Rattle.isa.specs.declared.Vreg.{Vreg}
 use Rattle.isa.specs.declared.Width.{Width}
 use Rattle.memory.specs.File.{register_at}
@@ -25,21 +26,19 @@ use Rattle.state.specs.Windows.{spot_of}
 use Rattle.words.proofs.Answers.{read-formed}
 use Rattle.words.specs.Formed.{Formed}
 use Rattle.plan.specs.declared.Plan.{Plan}
-use Rattle.plan.specs.declared.planned.Early.{Early}
-use Rattle.plan.specs.declared.planned.Early.TheVariants.{Go, Stops}
 use Rattle.plan.specs.Ahead.{stop_in, first, place_early, stop_ahead, Within}
 use Rattle.plan.specs.Numbers.{address}
 use Rattle.plan.specs.Plan.{plan_of, early, unless, kind_of, executed, accessed, loaded, stored, general_at}
 
 -- 15 and 16 come before what an instruction's own plan names
-unless-stops : (e : Early) (q : Plan) → stop_in (unless e q) ≡ first e (stop_in q)
-unless-stops Go q = refl
-unless-stops (Stops s) q = refl
+unless-stops : (e : Result ⊤ Stop) (q : Plan) → stop_in (unless e q) ≡ first e (stop_in q)
+unless-stops (Ok tt) q = refl
+unless-stops (Err s) q = refl
 
 -- and are all where that plan names nothing
-first-go : (e : Early) → first e Go ≡ e
-first-go Go = refl
-first-go (Stops s) = refl
+first-go : (e : Result ⊤ Stop) → first e (Ok tt) ≡ e
+first-go (Ok tt) = refl
+first-go (Err s) = refl
 
 module _ (b : Board) (t v g w : List ℕ) (c : Control) where
   abbrev here : Env
@@ -126,6 +125,6 @@ formed-within (instr.Fixed o df wd ws wt) f = tt
 pub read-within : (w : ℕ) → w < 2 ^ 32 → Within (ahead_of (read_of w))
 read-within w h = go (read_of w) refl
   where
-    go : (r : Read) → read_of w ≡ r → Within (ahead_of r)
-    go (read.Not u) e = tt
-    go (read.Instr i) e = formed-within i (read-formed w i h e)
+    go : (r : Result Instr Unread) → read_of w ≡ r → Within (ahead_of r)
+    go (Err u) e = tt
+    go (Ok i) e = formed-within i (read-formed w i h e)

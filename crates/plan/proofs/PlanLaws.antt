@@ -26,8 +26,8 @@ use Rattle.state.proofs.WindowLaws.{spot-work}
 use Rattle.words.specs.Formed.{Formed}
 use Rattle.plan.specs.declared.Plan.{Plan}
 use Rattle.plan.specs.declared.Plan.TheVariants as plan
-use Rattle.plan.specs.declared.planned.Early.{Early}
-use Rattle.plan.specs.declared.planned.Early.TheVariants.{Go, Stops}
+use Rattle.std.specs.Prelude.{Ok, Err, Result, ⊤}
+use Rattle.state.specs.declared.stops.Stop.{Stop}
 use Rattle.plan.specs.Numbers.{address}
 use Rattle.plan.specs.Plan.{plan_of, executed, accessed, loaded, stored, writes, general_at, kind_of, early, unless}
 use Rattle.plan.specs.There.{There}
@@ -97,9 +97,9 @@ module _ (e : Env) (m : Machine) where
   executed-there (instr.Scaled o rd rs rt sa) f = f.0
   executed-there (instr.Fixed o df wd ws wt) f = f.0
 
-  unless-there : (s : Early) (p : Plan) → Names p → Names (unless s p)
-  unless-there Go p h = h
-  unless-there (Stops s) p h = tt
+  unless-there : (s : Result ⊤ Stop) (p : Plan) → Names p → Names (unless s p)
+  unless-there (Ok tt) p h = h
+  unless-there (Err s) p h = tt
 
   pub planned-there : (i : Instr) → Formed i → There e.board.work (length m.work) (plan_of e m i)
   unfolding plan_of

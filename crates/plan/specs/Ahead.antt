@@ -1,5 +1,5 @@
 -- What stops an instruction, by what its word says of stops and the state that it meets: its plan is not made.
-use Rattle.std.specs.Prelude.{ℕ, ◌<◌, List}
+use Rattle.std.specs.Prelude.{ℕ, ◌<◌, List, Ok, Err, Result, ⊤}
 use Rattle.isa.specs.declared.Memory.{Memory}
 use Rattle.isa.specs.declared.Memory.TheVariants.{Ld, St}
 use Rattle.ops.specs.Meaning.{memory_at}
@@ -13,40 +13,39 @@ use Rattle.state.specs.declared.windows.Spot.TheVariants.{Table, Work, Outside}
 use Rattle.state.specs.Windows.{spot_of}
 use Rattle.plan.specs.declared.Plan.{Plan}
 use Rattle.plan.specs.declared.Plan.TheVariants as plan
-use Rattle.plan.specs.declared.planned.Early.{Early}
-use Rattle.plan.specs.declared.planned.Early.TheVariants.{Go, Stops}
+use Rattle.state.specs.declared.stops.Stop.{Stop}
 use Rattle.plan.specs.Numbers.{address}
 use Rattle.plan.specs.Plan.{general_at, to_control, switched_early, branch_early}
 
 -- the reason that a plan names, if any
-abbrev pub stop_in : Plan → Early
-stop_in (plan.Stop s) = Stops s
-stop_in plan.Nothing = Go
-stop_in (plan.Vector r v) = Go
-stop_in (plan.General r x) = Go
-stop_in (plan.Store a v) = Go
-stop_in (plan.Csr x) = Go
-stop_in (plan.Branch k) = Go
+abbrev pub stop_in : Plan → Result ⊤ Stop
+stop_in (plan.Stop s) = Err s
+stop_in plan.Nothing = Ok tt
+stop_in (plan.Vector r v) = Ok tt
+stop_in (plan.General r x) = Ok tt
+stop_in (plan.Store a v) = Ok tt
+stop_in (plan.Csr x) = Ok tt
+stop_in (plan.Branch k) = Ok tt
 
 -- two reasons, if any: the first is told
-abbrev pub first : Early → Early → Early
-first Go e = e
-first (Stops s) e = Stops s
+abbrev pub first : Result ⊤ Stop → Result ⊤ Stop → Result ⊤ Stop
+first (Ok tt) e = e
+first (Err s) e = Err s
 
 -- LD and ST of the sixteen bytes from a: 18 stops ST in the table, and 17 both where no window holds them all
-abbrev pub table_early : Memory → ℕ → Early
-table_early Ld a = Go
-table_early St a = Stops (ReadOnly a)
+abbrev pub table_early : Memory → ℕ → Result ⊤ Stop
+table_early Ld a = Ok tt
+table_early St a = Err (ReadOnly a)
 
-abbrev pub place_early : Memory → ℕ → Spot → Early
+abbrev pub place_early : Memory → ℕ → Spot → Result ⊤ Stop
 place_early o a (Table i) = table_early o a
-place_early o a (Work i) = Go
-place_early o a (Outside x) = Stops (NoWindow x)
+place_early o a (Work i) = Ok tt
+place_early o a (Outside x) = Err (NoWindow x)
 
 -- table and work are the lengths of the windows
-abbrev pub stop_ahead : Ahead → Board → ℕ → List ℕ → ℕ → Control → Early
-stop_ahead (ahead.Not u) b table g work c = Stops (Unread u)
-stop_ahead ahead.Free b table g work c = Go
+abbrev pub stop_ahead : Ahead → Board → ℕ → List ℕ → ℕ → Control → Result ⊤ Stop
+stop_ahead (ahead.Not u) b table g work c = Err (Unread u)
+stop_ahead ahead.Free b table g work c = Ok tt
 stop_ahead ahead.Branch b table g work c = branch_early c.mark c.on
 stop_ahead ahead.Vector b table g work c = switched_early c.on
 stop_ahead (ahead.Control cd rs) b table g work c =

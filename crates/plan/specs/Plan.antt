@@ -1,5 +1,5 @@
 -- What each instruction does: a line a class. Sources are the values before the step.
-use Rattle.std.specs.Prelude.{ℕ, ◌*◌, List, Bool, true, false, cond, eqb, length}
+use Rattle.std.specs.Prelude.{ℕ, ◌*◌, List, Bool, true, false, cond, eqb, length, Ok, Err, Result, ⊤}
 use Rattle.isa.specs.declared.Vreg.{Vreg}
 use Rattle.isa.specs.declared.Greg.{Greg}
 use Rattle.isa.specs.declared.Width.{Width}
@@ -33,8 +33,7 @@ use Rattle.plan.specs.declared.Plan.{Plan}
 use Rattle.plan.specs.declared.Plan.TheVariants as plan
 use Rattle.plan.specs.declared.planned.Kind.{Kind}
 use Rattle.plan.specs.declared.planned.Kind.TheVariants.{Branching, Switched, Free}
-use Rattle.plan.specs.declared.planned.Early.{Early}
-use Rattle.plan.specs.declared.planned.Early.TheVariants.{Go, Stops}
+use Rattle.state.specs.declared.stops.Stop.{Stop}
 use Rattle.plan.specs.Numbers.{address, target, scaled_of, control_read, copy_of}
 use Rattle.plan.specs.Zero.{taken_of, taken_vof}
 
@@ -153,23 +152,23 @@ kind_of (instr.BranchV k wt offset) = Branching
 kind_of (instr.Scaled k rd rs rt sa) = Free
 kind_of (instr.Fixed k df wd ws wt) = Switched
 
-abbrev pub switched_early : Bool → Early
-switched_early true = Go
-switched_early false = Stops SwitchedOff
+abbrev pub switched_early : Bool → Result ⊤ Stop
+switched_early true = Ok tt
+switched_early false = Err SwitchedOff
 
-abbrev pub branch_early : Mark → Bool → Early
+abbrev pub branch_early : Mark → Bool → Result ⊤ Stop
 branch_early Clear on = switched_early on
-branch_early NotTaken on = Stops BranchInSlot
-branch_early (Taken t) on = Stops BranchInSlot
+branch_early NotTaken on = Err BranchInSlot
+branch_early (Taken t) on = Err BranchInSlot
 
-abbrev pub early : Kind → Mark → Bool → Early
+abbrev pub early : Kind → Mark → Bool → Result ⊤ Stop
 early Branching k on = branch_early k on
 early Switched k on = switched_early on
-early Free k on = Go
+early Free k on = Ok tt
 
-abbrev pub unless : Early → Plan → Plan
-unless Go p = p
-unless (Stops s) p = plan.Stop s
+abbrev pub unless : Result ⊤ Stop → Plan → Plan
+unless (Ok tt) p = p
+unless (Err s) p = plan.Stop s
 
 unfoldable pub plan_of : Env → Machine → Instr → Plan
 plan_of e m i = unless (early (kind_of i) m.ctl.mark m.ctl.on) (executed e m i)

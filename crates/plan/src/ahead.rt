@@ -6,7 +6,6 @@ ghost use Rattle.plan.specs.Ahead as ahead;
 
 use crate::address::address;
 use crate::early::{branch_early, switched_early};
-use crate::planned::Early;
 use crate::{Plan, moves};
 use isa::Memory;
 use meaning::memory_at;
@@ -17,48 +16,48 @@ use state::stops::Stop;
 use state::windows::{Spot, locate};
 
 // The reason that a plan names, if any.
-fn stop_in(p: Plan) -> Early
+fn stop_in(p: Plan) -> Result<(), Stop>
     ensures { result ≡ stop_in p }
 {
     match p {
-        Plan::Stop(s) => Early::Stops(s),
-        Plan::Nothing => Early::Go,
-        Plan::Vector(_, _) => Early::Go,
-        Plan::General(_, _) => Early::Go,
-        Plan::Store(_, _) => Early::Go,
-        Plan::Csr(_) => Early::Go,
-        Plan::Branch(_) => Early::Go,
+        Plan::Stop(s) => Err(s),
+        Plan::Nothing => Ok(()),
+        Plan::Vector(_, _) => Ok(()),
+        Plan::General(_, _) => Ok(()),
+        Plan::Store(_, _) => Ok(()),
+        Plan::Csr(_) => Ok(()),
+        Plan::Branch(_) => Ok(()),
     }
 }
 
 // Two reasons, if any: the first is told.
-fn first(e: Early, later: Early) -> Early
+fn first(e: Result<(), Stop>, later: Result<(), Stop>) -> Result<(), Stop>
     ensures { result ≡ ahead.first e later }
 {
     match e {
-        Early::Go => later,
-        Early::Stops(s) => Early::Stops(s),
+        Ok(()) => later,
+        Err(s) => Err(s),
     }
 }
 
 // 18, where the sixteen bytes from a stand in the table.
-fn table_early(op: Memory, a: u64) -> Early
+fn table_early(op: Memory, a: u64) -> Result<(), Stop>
     ensures { result ≡ table_early op a }
 {
     match op {
-        Memory::Ld => Early::Go,
-        Memory::St => Early::Stops(Stop::ReadOnly(a)),
+        Memory::Ld => Ok(()),
+        Memory::St => Err(Stop::ReadOnly(a)),
     }
 }
 
 // 17 and 18 of LD and ST, by where the sixteen bytes from a stand.
-fn place_early(op: Memory, board: Board, table: usize, work: usize, a: u64) -> Early
+fn place_early(op: Memory, board: Board, table: usize, work: usize, a: u64) -> Result<(), Stop>
     ensures { result ≡ place_early op a (spot_of board table work a) }
 {
     match locate(board, table, work, a) {
         Spot::Table(_) => table_early(op, a),
-        Spot::Work(_) => Early::Go,
-        Spot::Outside(x) => Early::Stops(Stop::NoWindow(x)),
+        Spot::Work(_) => Ok(()),
+        Spot::Outside(x) => Err(Stop::NoWindow(x)),
     }
 }
 
@@ -70,14 +69,14 @@ pub fn stop_ahead(
     generals: &[u8],
     work: usize,
     c: Control,
-) -> Early
+) -> Result<(), Stop>
     requires { (length generals.now ≡ 256) × Within a }
     ensures { result ≡ stop_ahead a board table generals.now work c }
 {
     let mark = c.mark;
     match a {
-        Ahead::Not(u) => Early::Stops(Stop::Unread(u)),
-        Ahead::Free => Early::Go,
+        Ahead::Not(u) => Err(Stop::Unread(u)),
+        Ahead::Free => Ok(()),
         Ahead::Branch => branch_early(mark, c.on),
         Ahead::Vector => switched_early(c.on),
         Ahead::Control(cd, rs) => {

@@ -3,26 +3,25 @@
 ghost use Rattle.std.specs.Prelude.{◌≡◌};
 ghost use Rattle.plan.specs.Plan.{switched_early, branch_early};
 
-use crate::planned::Early;
 use state::control::Mark;
 use state::stops::Stop;
 
-pub fn switched_early(on: bool) -> Early
+pub fn switched_early(on: bool) -> Result<(), Stop>
     ensures { result ≡ switched_early on }
 {
     if on {
-        Early::Go
+        Ok(())
     } else {
-        Early::Stops(Stop::SwitchedOff)
+        Err(Stop::SwitchedOff)
     }
 }
 
-pub fn branch_early(k: Mark, on: bool) -> Early
+pub fn branch_early(k: Mark, on: bool) -> Result<(), Stop>
     ensures { result ≡ branch_early k on }
 {
     match k {
         Mark::Clear => switched_early(on),
-        Mark::NotTaken => Early::Stops(Stop::BranchInSlot),
-        Mark::Taken(_) => Early::Stops(Stop::BranchInSlot),
+        Mark::NotTaken => Err(Stop::BranchInSlot),
+        Mark::Taken(_) => Err(Stop::BranchInSlot),
     }
 }

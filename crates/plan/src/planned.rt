@@ -22,12 +22,6 @@ pub enum Kind {
     Free,
 }
 
-#[derive(Clone, Copy)]
-pub enum Early {
-    Go,
-    Stops(Stop),
-}
-
 fn kind_of(i: Instr) -> Kind
     ensures { result ≡ kind_of i }
 {
@@ -59,13 +53,13 @@ fn kind_of(i: Instr) -> Kind
 }
 
 // Whether 15 or 16 stops an instruction before it works.
-fn early_stop(kind: Kind, k: Mark, on: bool) -> Early
+fn early_stop(kind: Kind, k: Mark, on: bool) -> Result<(), Stop>
     ensures { result ≡ plans.early kind k on }
 {
     match kind {
         Kind::Branching => branch_early(k, on),
         Kind::Switched => switched_early(on),
-        Kind::Free => Early::Go,
+        Kind::Free => Ok(()),
     }
 }
 
@@ -180,7 +174,7 @@ pub fn plan_of(
 {
     let mark = c.mark;
     match early_stop(kind_of(i), mark, c.on) {
-        Early::Go => execute(i, board, table, vectors, generals, work, c),
-        Early::Stops(s) => Plan::Stop(s),
+        Ok(()) => execute(i, board, table, vectors, generals, work, c),
+        Err(s) => Plan::Stop(s),
     }
 }

@@ -7,8 +7,7 @@ use native.Mathlib.Omega.{arith}
 use lib.ListN.{length, get_or}
 use Rattle.memory.specs.Bytes.{AreBytes}
 use Rattle.state.specs.declared.setup.Refusal.{Refusal}
-use Rattle.state.specs.declared.setup.Setup.{Setup}
-use Rattle.state.specs.declared.setup.Setup.TheVariants.{Accepted, Refused}
+use Rattle.std.specs.Prelude.{Ok, Err, Result, ⊤}
 use Rattle.state.specs.Numbers.{refusal_number}
 use Rattle.state.specs.Setup.{setup_number}
 use Rattle.machine.specs.declared.run.Reason.{Reason}
@@ -35,7 +34,7 @@ use Rattle.read_demands.proofs.Comes.{same-lent, limit-refuses, filled_at}
 
 -- ---- the rows
 
-not-accepted : (u : Refusal) → Refused u ≡ Accepted → ⊥
+not-accepted : (u : Refusal) → Err u ≡ Ok tt → ⊥
 not-accepted u h = let z : ◌≡◌ {A = ℕ} 0 1 = cc in omega arith
 
 -- a row that does not apply, among others
@@ -57,36 +56,36 @@ called-below g budget x y r i h =
 
 module _ (g : Given) (x : Lent) where
   -- the limits before other rows, by the set-up
-  before : (rows : List Row) (n : ℕ) (q : Setup) → setup_of g x ≡ q → (q ≡ Accepted → First rows n)
+  before : (rows : List Row) (n : ℕ) (q : Result ⊤ Refusal) → setup_of g x ≡ q → (q ≡ Ok tt → First rows n)
       → First (limits_of g x ++ rows) (or_number q n)
   before rows n q h f =
       subst (λ s. First (limits_of g x ++ rows) (or_number s n)) h
       (limits-first g.program (env_of g x) (machine_of x) rows n (λ a. f (sym h ∙ a)))
 
-  refused-first : (rows : List Row) (u : Refusal) → setup_of g x ≡ Refused u
+  refused-first : (rows : List Row) (u : Refusal) → setup_of g x ≡ Err u
       → First (limits_of g x ++ rows) (refusal_number u)
-  refused-first rows u h = before rows 0 (Refused u) h (λ z. absurd (not-accepted u z))
+  refused-first rows u h = before rows 0 (Err u) h (λ z. absurd (not-accepted u z))
 
   -- and alone
-  limit-first : (q : Setup) → setup_of g x ≡ q → First (limits_of g x) (setup_number q)
+  limit-first : (q : Result ⊤ Refusal) → setup_of g x ≡ q → First (limits_of g x) (setup_number q)
   limit-first q h =
       subst (λ s. First (limits_of g x) (setup_number s)) h (first-limit g.program (env_of g x) (machine_of x))
 
-  breaks : (u : Refusal) → setup_of g x ≡ Refused u → First (limits_of g x) 0 → ⊥
+  breaks : (u : Refusal) → setup_of g x ≡ Err u → First (limits_of g x) 0 → ⊥
   breaks u h f =
-      let e = one-first (limits_of g x) 0 (refusal_number u) f (limit-first (Refused u) h) in
+      let e = one-first (limits_of g x) 0 (refusal_number u) f (limit-first (Err u) h) in
       omega (arith, e, (refusal-between u).0)
 
   -- the number of the six rows
   module _ (list : List ℕ) where
-    limit-six : (u : Refusal) → setup_of g x ≡ Refused u → First (refusals g x list) (refusal_number u)
+    limit-six : (u : Refusal) → setup_of g x ≡ Err u → First (refusals g x list) (refusal_number u)
     limit-six u h = refused-first (short g.program list ∷ []) u h
 
-    short-six : setup_of g x ≡ Accepted → Short g.program list → First (refusals g x list) 51
-    short-six h k = before (short g.program list ∷ []) 51 Accepted h (λ a. given k)
+    short-six : setup_of g x ≡ Ok tt → Short g.program list → First (refusals g x list) 51
+    short-six h k = before (short g.program list ∷ []) 51 (Ok tt) h (λ a. given k)
 
-    none-six : setup_of g x ≡ Accepted → Not (Short g.program list) → First (refusals g x list) 0
-    none-six h k = before (short g.program list ∷ []) 0 Accepted h (λ a. passed k none)
+    none-six : setup_of g x ≡ Ok tt → Not (Short g.program list) → First (refusals g x list) 0
+    none-six h k = before (short g.program list ∷ []) 0 (Ok tt) h (λ a. passed k none)
 
 -- ---- refusals
 
@@ -101,7 +100,7 @@ module _ (g : Given) (budget : ℕ) (x y : Lent) (list list' : List ℕ) (r : Ms
 
   is-short : Comes g budget x list r y list' → r.reason ≡ 51 → First (limits_of g x) 0 × Short g.program list
   is-short (refused u h i l) e = absurd (called-below g budget x y r i e)
-  is-short (too_short h k i) e = (limit-first g x Accepted h, k)
+  is-short (too_short h k i) e = (limit-first g x (Ok tt) h, k)
   is-short (ran h k i l) e = absurd (called-below g budget x y r i e)
 
   says-short : Comes g budget x list r y list' → First (limits_of g x) 0 → Short g.program list → r.reason ≡ 51
@@ -172,7 +171,7 @@ module _ (g : Given) (budget : ℕ) (x y : Lent) (list list' : List ℕ) (r : Ms
         rw (limit-refuses g budget x y list list' r u h i l).reason
         (refused-first g x (short g.program list ∷ rest) u h)
     numbered (too_short h k i) =
-        rw i.reason (before g x (short g.program list ∷ rest) 51 Accepted h (λ a. given k))
+        rw i.reason (before g x (short g.program list ∷ rest) 51 (Ok tt) h (λ a. given k))
     numbered (ran h k i l) =
         inserted (limits_of g x) rest (short g.program list) r.reason k
         (run-called g budget x y r bytes i).number

@@ -8,8 +8,7 @@ use borrow.Author.Tests.{ltb-true, ltb-false}
 use lib.Dec.{ltb}
 use lib.ListN.{length, get_or}
 use Rattle.state.specs.declared.setup.Refusal.{Refusal}
-use Rattle.state.specs.declared.setup.Setup.{Setup}
-use Rattle.state.specs.declared.setup.Setup.TheVariants.{Accepted, Refused}
+use Rattle.std.specs.Prelude.{Ok, Err, Result, ⊤}
 use Rattle.state.specs.Machine.{Env, Machine}
 use Rattle.state.specs.Numbers.{refusal_number}
 use Rattle.state.specs.Setup.{refusal}
@@ -29,16 +28,16 @@ use Rattle.entry_demands.specs.Calls.{Given, Lent, env_of, machine_of, Call}
 use Rattle.read_demands.specs.Answers.{Short, Refuses}
 use Rattle.read_demands.specs.Calls.{ReadCall}
 
-abbrev pub setup_of : Given → Lent → Setup
+abbrev pub setup_of : Given → Lent → Result ⊤ Refusal
 setup_of g x = refusal g.program (env_of g x) (machine_of x)
 
 pub data Comes (g : Given) (budget : ℕ) (x : Lent) (list : List ℕ) (r : MsaEnded) (y : Lent) (list' : List ℕ) :
     Type 0 where
-  refused : (u : Refusal) → setup_of g x ≡ Refused u → Call g budget x r y → list' ≡ list
+  refused : (u : Refusal) → setup_of g x ≡ Err u → Call g budget x r y → list' ≡ list
       → Comes g budget x list r y list'
-  too_short : setup_of g x ≡ Accepted → Short g.program list → Refuses 51 x list r y list'
+  too_short : setup_of g x ≡ Ok tt → Short g.program list → Refuses 51 x list r y list'
       → Comes g budget x list r y list'
-  ran : setup_of g x ≡ Accepted → Not (Short g.program list) → Call g budget x r y
+  ran : setup_of g x ≡ Ok tt → Not (Short g.program list) → Call g budget x r y
       → list' ≡ listed g.program list (length g.program / 4) → Comes g budget x list r y list'
 
 -- lent bytes are one where their parts are
@@ -52,15 +51,15 @@ module _ (p : List ℕ) (e : Env) (budget : ℕ) (m : Machine) (list : List ℕ)
   unless-runs false h = refl
 
   -- where 51 is not the answer, the run is that of the first engine
-  same-run : (q : Setup) → (after_limits q p e budget m list).short ≡ false
+  same-run : (q : Result ⊤ Refusal) → (after_limits q p e budget m list).short ≡ false
       → (after_limits q p e budget m list).run ≡ admitted q (runs p e budget m) m
-  same-run Accepted h = unless-runs (ltb (length list) (length p / 4)) h
-  same-run (Refused u) h = refl
+  same-run (Ok tt) h = unless-runs (ltb (length list) (length p / 4)) h
+  same-run (Err u) h = refl
 
 few : (p list : List ℕ) → length list < length p / 4 → Short p list
 few p list h = omega arith
 
-enough : (p : List ℕ) (e : Env) (m : Machine) (list : List ℕ) → refusal p e m ≡ Accepted
+enough : (p : List ℕ) (e : Env) (m : Machine) (list : List ℕ) → refusal p e m ≡ Ok tt
     → length p / 4 ≤ length list → Not (Short p list)
 enough p e m list ok h k =
     let whole = (stands e.board.program p (program-accepted p e m ok)).words in
@@ -88,7 +87,7 @@ module _ (g : Given) (budget : ℕ) (x y : Lent) (list list' : List ℕ) (r : Ms
       }
 
   -- one of the limits changes nothing
-  pub limit-refuses : (u : Refusal) → refusal p e m ≡ Refused u → Call g budget x r y → list' ≡ list
+  pub limit-refuses : (u : Refusal) → refusal p e m ≡ Err u → Call g budget x r y → list' ≡ list
       → Refuses (refusal_number u) x list r y list'
   limit-refuses u h i l =
       let j : RunsTo (ended (reason.Refused u) m) r y.vec y.gen y.work x.control y.control =
@@ -109,25 +108,25 @@ module _ (g : Given) (budget : ℕ) (x y : Lent) (list list' : List ℕ) (r : Ms
           subst (λ s. RunsTo s r y.vec y.gen y.work x.control y.control)
           (same-run p e budget m list (refusal p e m) h) (i.ran h)
 
-      go : (q : Setup) → refusal p e m ≡ q → (t : Bool) → ltb (length list) (length p / 4) ≡ t
+      go : (q : Result ⊤ Refusal) → refusal p e m ≡ q → (t : Bool) → ltb (length list) (length p / 4) ≡ t
           → Comes g budget x list r y list'
-      go (Refused u) h t k =
+      go (Err u) h t k =
           let is = ap (λ q. after_limits q p e budget m list) h in
           refused u h (called (ap (λ s. s.short) is)) (i.list ∙ ap (λ s. s.list) is)
-      go Accepted h true k =
+      go (Ok tt) h true k =
           let is = ap (λ q. after_limits q p e budget m list) h ∙ ap (λ t. unless_short t p e budget m list) k in
           let f : ShortIs m r y.vec y.gen y.work x.control y.control =
           subst (λ s. ShortIs s.run.after r y.vec y.gen y.work x.control y.control) is
           (i.short (ap (λ s. s.short) is)) in
           too_short h (few p list (ltb-true (length list) (length p / 4) k))
           (short-refuses f (i.list ∙ ap (λ s. s.list) is))
-      go Accepted h false k =
+      go (Ok tt) h false k =
           let is = ap (λ q. after_limits q p e budget m list) h ∙ ap (λ t. unless_short t p e budget m list) k in
           ran h (enough p e m list h (ltb-false (length list) (length p / 4) k)) (called (ap (λ s. s.short) is))
           (i.list ∙ ap (λ s. s.list) is)
 
   -- after a run, the entry of each of the program's words is there
-  pub filled_at : refusal p e m ≡ Accepted → Not (Short p list) → list' ≡ listed p list (length p / 4)
+  pub filled_at : refusal p e m ≡ Ok tt → Not (Short p list) → list' ≡ listed p list (length p / 4)
       → (i : ℕ) → 4 * i < length p → get_or list' i 0 ≡ entry_at p i
   filled_at ok n l i h =
       let whole = (stands e.board.program p (program-accepted p e m ok)).words in

@@ -11,7 +11,7 @@ use lib.ListN.{get_or}
 use Rattle.isa.specs.declared.Greg.{Greg}
 use Rattle.isa.specs.declared.Instr.{Instr}
 use Rattle.isa.specs.declared.Instr.TheVariants as instr
-use Rattle.isa.specs.declared.Read.TheVariants as read
+use Rattle.std.specs.Prelude.{Ok, Err}
 use Rattle.isa.specs.declared.Unread.{Unread}
 use Rattle.isa.specs.declared.Unread.TheVariants.{Unassigned, LeftOut, Other}
 use Rattle.isa.specs.declared.Width.TheVariants.{B}
@@ -38,7 +38,7 @@ use Rattle.read_demands.proofs.Answers.{runs}
 
 -- ---- a word that reads as no instruction
 
-unread-code : (u : Unread) → code_of (entry_of (read.Not u)) ≡ unread_code u % 256
+unread-code : (u : Unread) → code_of (entry_of (Err u)) ≡ unread_code u % 256
 unread-code u = let none : 0 < 32 = lit< tt in (parts (unread_code u) B 0 0 0 0 0 none none none).code
 
 told : (u : Unread) (c : ℕ) → c ≡ unread_code u % 256 → (109 ≤ c) × (unread_at c ≡ u)
@@ -104,7 +104,7 @@ kept_for e w x h =
     record {
       unread = λ u r. told u (code_of x) (ap code_of (h ∙ ap entry_of r) ∙ unread-code u);
       instruction = λ i r.
-          low e i x (ap (λ k. plan_at e idle k) (h ∙ ap entry_of r) ∙ plan-back (read.Instr i) (formed w i r) e idle);
+          low e i x (ap (λ k. plan_at e idle k) (h ∙ ap entry_of r) ∙ plan-back (Ok i) (formed w i r) e idle);
     }
 
 pub unread-kept : UnreadKept

@@ -2,15 +2,15 @@
 use mathlib.Core.Path.{◌≡◌}
 use mathlib.Core.Bool.{Bool, true, false, cond}
 use Rattle.isa.specs.declared.Instr.{Instr}
-use Rattle.isa.specs.declared.Read.{Read}
-use Rattle.isa.specs.declared.Read.TheVariants as read
+use Rattle.std.specs.Prelude.{Ok, Result}
+use Rattle.isa.specs.declared.Unread.{Unread}
 use Rattle.reading.specs.declared.ahead.Ahead.{Ahead}
 use Rattle.reading.specs.Ahead.{ahead_in, ahead_of}
 
-pub told-given : {b ok : Bool} (i : Instr) (v : Read) {r : Ahead} → b ≡ ok → r ≡ cond b (ahead_in i) (ahead_of v)
-    → r ≡ ahead_of (cond ok (read.Instr i) v)
+pub told-given : {b ok : Bool} (i : Instr) (v : Result Instr Unread) {r : Ahead} → b ≡ ok → r ≡ cond b (ahead_in i) (ahead_of v)
+    → r ≡ ahead_of (cond ok (Ok i) v)
 told-given {b} i v {r} e h = rw (← e) (go b h)
   where
-    go : (t : Bool) → r ≡ cond t (ahead_in i) (ahead_of v) → r ≡ ahead_of (cond t (read.Instr i) v)
+    go : (t : Bool) → r ≡ cond t (ahead_in i) (ahead_of v) → r ≡ ahead_of (cond t (Ok i) v)
     go true q = q
     go false q = q

@@ -1,10 +1,8 @@
 -- What a word says of stops: all that a step's outcome depends on, beside the state that it meets.
-use Rattle.std.specs.Prelude.{cond, ℕ, eqb}
+use Rattle.std.specs.Prelude.{cond, ℕ, eqb, Ok, Err, Result}
 use Rattle.fields.specs.Fields.{bits}
 use Rattle.isa.specs.declared.Instr.{Instr}
 use Rattle.isa.specs.declared.Instr.TheVariants as instr
-use Rattle.isa.specs.declared.Read.{Read}
-use Rattle.isa.specs.declared.Read.TheVariants as read
 use Rattle.isa.specs.declared.Unread.{Unread}
 use Rattle.isa.specs.declared.Unread.TheVariants.{Unassigned, Other}
 use Rattle.reading.specs.Reading.{Block, branch, special, other}
@@ -38,9 +36,9 @@ ahead_in (instr.BranchV o wt offset) = ahead.Branch
 ahead_in (instr.Scaled o rd rs rt sa) = ahead.Free
 ahead_in (instr.Fixed o df wd ws wt) = ahead.Vector
 
-abbrev pub ahead_of : Read → Ahead
-ahead_of (read.Not u) = ahead.Not u
-ahead_of (read.Instr i) = ahead_in i
+abbrev pub ahead_of : Result Instr Unread → Ahead
+ahead_of (Err u) = ahead.Not u
+ahead_of (Ok i) = ahead_in i
 
 -- ---- parts of the reader's definition that its code and this share
 

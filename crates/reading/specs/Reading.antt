@@ -1,5 +1,5 @@
 -- What a word reads as: its operation's place in the table, and the operands that the class there has.
-use Rattle.std.specs.Prelude.{◌≡◌, Bool, cond, ℕ, ◌*◌, ltb, eqb}
+use Rattle.std.specs.Prelude.{◌≡◌, Bool, cond, ℕ, ◌*◌, ltb, eqb, Ok, Err, Result}
 use Rattle.isa.specs.declared.Vreg.{Vreg}
 use Rattle.isa.specs.declared.Greg.{Greg}
 use Rattle.isa.specs.declared.Creg.{Creg}
@@ -8,8 +8,7 @@ use Rattle.isa.specs.declared.Width.{Width}
 use Rattle.isa.specs.declared.Instr.{Instr}
 use Rattle.isa.specs.declared.Instr.TheVariants as instr
 use Rattle.isa.specs.declared.Unread.TheVariants.{Unassigned, LeftOut, Other}
-use Rattle.isa.specs.declared.Read.{Read}
-use Rattle.isa.specs.declared.Read.TheVariants as read
+use Rattle.isa.specs.declared.Unread.{Unread}
 use Rattle.ops.specs.Classes.{Class}
 use Rattle.ops.specs.Classes as class
 use Rattle.isa.specs.Numbers.{read_said}
@@ -106,14 +105,14 @@ cd w = record { 0 = bits w 10 6 }
 -- ---- the answer
 
 -- a word that is no instruction: 12 under the major opcode 011110, 14 under another
-abbrev pub vacant : ℕ → Read
-vacant w = read.Not (cond (eqb (bits w 31 26) 30) Unassigned Other)
+abbrev pub vacant : ℕ → Result Instr Unread
+vacant w = Err (cond (eqb (bits w 31 26) 30) Unassigned Other)
 
-abbrev pub given : ℕ → Bool → Instr → Read
-given w ok i = cond ok (read.Instr i) (vacant w)
+abbrev pub given : ℕ → Bool → Instr → Result Instr Unread
+given w ok i = cond ok (Ok i) (vacant w)
 
 -- by the class and the formats at the operation's place k
-abbrev pub read_class : Class → Formats → ℕ → ℕ → Read
+abbrev pub read_class : Class → Formats → ℕ → ℕ → Result Instr Unread
 read_class class.Reserved f k w = vacant w
 read_class class.Three f k w = given w (has f (df w)) (instr.Three (op k) (df w) (vd w) (vs w) (vt w))
 read_class class.Indexed f k w = given w (has f (df w)) (instr.Indexed (op k) (df w) (vd w) (vs w) (gt w))
@@ -123,7 +122,7 @@ read_class class.Ldi f k w = given w (has f (df w)) (instr.Ldi (df w) (vd w) (bi
 read_class class.Bit f k w =
     let x = bit_index (bits w 22 16) in
     given w (both x.ok (has f x.df)) (instr.Bit (op k) x.df (vd w) (vs w) x.n)
-read_class class.Imm8 f k w = read.Instr (instr.Imm8 (op k) (vd w) (vs w) (bits w 23 16))
+read_class class.Imm8 f k w = Ok (instr.Imm8 (op k) (vd w) (vs w) (bits w 23 16))
 read_class class.Shf f k w =
     given w (has f (width_at (bits w 25 24))) (instr.Shf (width_at (bits w 25 24)) (vd w) (vs w) (bits w 23 16))
 read_class class.Element f k w =
@@ -138,10 +137,10 @@ read_class class.Copy f k w =
 read_class class.Insert f k w =
     let x = element_index (bits w 21 16) in
     given w (both x.ok (has f x.df)) (instr.Insert x.df (vd w) x.n (gs w))
-read_class class.Move f k w = read.Instr (instr.Move (vd w) (vs w))
-read_class class.Cfcmsa f k w = read.Instr (instr.Cfcmsa (gd w) (cs w))
-read_class class.Ctcmsa f k w = read.Instr (instr.Ctcmsa (cd w) (gs w))
-read_class class.Vec f k w = read.Instr (instr.Vec (op k) (vd w) (vs w) (vt w))
+read_class class.Move f k w = Ok (instr.Move (vd w) (vs w))
+read_class class.Cfcmsa f k w = Ok (instr.Cfcmsa (gd w) (cs w))
+read_class class.Ctcmsa f k w = Ok (instr.Ctcmsa (cd w) (gs w))
+read_class class.Vec f k w = Ok (instr.Vec (op k) (vd w) (vs w) (vt w))
 read_class class.Fill f k w =
     given w (has f (width_at (bits w 17 16))) (instr.Fill (width_at (bits w 17 16)) (vd w) (gs w))
 read_class class.Count f k w =
@@ -152,12 +151,12 @@ read_class class.Memory f k w =
 read_class class.Branch f k w = given w (has f (df w)) (instr.Branch (op k) (df w) (vt w) (bits w 15 0))
 read_class class.BranchV f k w = given w (eqb (bits w 22 21) 3) (instr.BranchV (op k) (vt w) (bits w 15 0))
 read_class class.Scaled f k w = given w (eqb (bits w 10 8) 0) (instr.Scaled (op k) (gs w) (ga w) (gt w) (bits w 7 6))
-read_class class.LeftOut f k w = read.Not LeftOut
+read_class class.LeftOut f k w = Err LeftOut
 read_class class.Fixed f k w = given w (has f (hw w)) (instr.Fixed (op k) (hw w) (vd w) (vs w) (vt w))
 
-unfoldable pub read_of : ℕ → Read
+unfoldable pub read_of : ℕ → Result Instr Unread
 read_of w = read_class (class_at (place_of w)) (formats_at (place_of w)) (place_of w) w
 
 -- what reading a word promises: the answer says what the definition says
-pub record Reads (w : ℕ) (r : Read) : Type 0 where
+pub record Reads (w : ℕ) (r : Result Instr Unread) : Type 0 where
   pub said : read_said r ≡ read_said (read_of w)

@@ -21,19 +21,19 @@ pub fn no_instr(w: u32) -> Unread
     Unread::Other
 }
 
-pub fn vacant(w: u32) -> Read
+pub fn vacant(w: u32) -> Result<Instr, Unread>
     ensures { result ≡ reading.vacant w }
 {
-    Read::Not(no_instr(w))
+    Err(no_instr(w))
 }
 
-fn given(w: u32, ok: bool, i: Instr) -> Read
+fn given(w: u32, ok: bool, i: Instr) -> Result<Instr, Unread>
     ensures { result ≡ reading.given w ok i }
 {
-    if ok { Read::Instr(i) } else { vacant(w) }
+    if ok { Ok(i) } else { vacant(w) }
 }
 
-pub fn three(f: u64, k: u16, w: u32) -> Read
+pub fn three(f: u64, k: u16, w: u32) -> Result<Instr, Unread>
     ensures { result ≡ reading.read_class class.Three (formats_of f) k w }
 {
     let df = df(w);
@@ -47,7 +47,7 @@ pub fn three(f: u64, k: u16, w: u32) -> Read
     given(w, has(f, df), i)
 }
 
-pub fn indexed(f: u64, k: u16, w: u32) -> Read
+pub fn indexed(f: u64, k: u16, w: u32) -> Result<Instr, Unread>
     ensures { result ≡ reading.read_class class.Indexed (formats_of f) k w }
 {
     let df = df(w);
@@ -61,7 +61,7 @@ pub fn indexed(f: u64, k: u16, w: u32) -> Read
     given(w, has(f, df), i)
 }
 
-pub fn imm5_u(f: u64, k: u16, w: u32) -> Read
+pub fn imm5_u(f: u64, k: u16, w: u32) -> Result<Instr, Unread>
     ensures { result ≡ reading.read_class class.Imm5U (formats_of f) k w }
 {
     let df = df(w);
@@ -75,7 +75,7 @@ pub fn imm5_u(f: u64, k: u16, w: u32) -> Read
     given(w, has(f, df), i)
 }
 
-pub fn imm5_s(f: u64, k: u16, w: u32) -> Read
+pub fn imm5_s(f: u64, k: u16, w: u32) -> Result<Instr, Unread>
     ensures { result ≡ reading.read_class class.Imm5S (formats_of f) k w }
 {
     let df = df(w);
@@ -89,7 +89,7 @@ pub fn imm5_s(f: u64, k: u16, w: u32) -> Read
     given(w, has(f, df), i)
 }
 
-pub fn ldi(f: u64, k: u16, w: u32) -> Read
+pub fn ldi(f: u64, k: u16, w: u32) -> Result<Instr, Unread>
     ensures { result ≡ reading.read_class class.Ldi (formats_of f) k w }
 {
     let df = df(w);
@@ -101,7 +101,7 @@ pub fn ldi(f: u64, k: u16, w: u32) -> Read
     given(w, has(f, df), i)
 }
 
-pub fn bit(f: u64, k: u16, w: u32) -> Read
+pub fn bit(f: u64, k: u16, w: u32) -> Result<Instr, Unread>
     ensures { result ≡ reading.read_class class.Bit (formats_of f) k w }
 {
     let x = bit_index((w / 65536 % 128) as u8);
@@ -118,10 +118,10 @@ pub fn bit(f: u64, k: u16, w: u32) -> Read
     given(w, ok & has(f, df), i)
 }
 
-pub fn imm_8(k: u16, w: u32) -> Read
+pub fn imm_8(k: u16, w: u32) -> Result<Instr, Unread>
     ensures { result ≡ reading.read_class class.Imm8 (formats_of 0) k w }
 {
-    Read::Instr(Instr::Imm8 {
+    Ok(Instr::Imm8 {
         op: Op(k),
         wd: vd(w),
         ws: vs(w),
@@ -129,7 +129,7 @@ pub fn imm_8(k: u16, w: u32) -> Read
     })
 }
 
-pub fn shf(f: u64, k: u16, w: u32) -> Read
+pub fn shf(f: u64, k: u16, w: u32) -> Result<Instr, Unread>
     ensures { result ≡ reading.read_class class.Shf (formats_of f) k w }
 {
     let df = width_at(w / 16777216 % 4);
@@ -142,7 +142,7 @@ pub fn shf(f: u64, k: u16, w: u32) -> Read
     given(w, has(f, df), i)
 }
 
-pub fn element(f: u64, k: u16, w: u32) -> Read
+pub fn element(f: u64, k: u16, w: u32) -> Result<Instr, Unread>
     ensures { result ≡ reading.read_class class.Element (formats_of f) k w }
 {
     let x = element_index((w / 65536 % 64) as u8);
@@ -159,7 +159,7 @@ pub fn element(f: u64, k: u16, w: u32) -> Read
     given(w, ok & has(f, df), i)
 }
 
-pub fn insve(f: u64, k: u16, w: u32) -> Read
+pub fn insve(f: u64, k: u16, w: u32) -> Result<Instr, Unread>
     ensures { result ≡ reading.read_class class.Insve (formats_of f) k w }
 {
     let x = element_index((w / 65536 % 64) as u8);
@@ -175,7 +175,7 @@ pub fn insve(f: u64, k: u16, w: u32) -> Read
     given(w, ok & has(f, df), i)
 }
 
-pub fn copied(f: u64, k: u16, w: u32) -> Read
+pub fn copied(f: u64, k: u16, w: u32) -> Result<Instr, Unread>
     ensures { result ≡ reading.read_class class.Copy (formats_of f) k w }
 {
     let x = element_index((w / 65536 % 64) as u8);
@@ -192,7 +192,7 @@ pub fn copied(f: u64, k: u16, w: u32) -> Read
     given(w, ok & has(f, df), i)
 }
 
-pub fn insert(f: u64, k: u16, w: u32) -> Read
+pub fn insert(f: u64, k: u16, w: u32) -> Result<Instr, Unread>
     ensures { result ≡ reading.read_class class.Insert (formats_of f) k w }
 {
     let x = element_index((w / 65536 % 64) as u8);
@@ -208,37 +208,37 @@ pub fn insert(f: u64, k: u16, w: u32) -> Read
     given(w, ok & has(f, df), i)
 }
 
-pub fn move_v(w: u32) -> Read
+pub fn move_v(w: u32) -> Result<Instr, Unread>
     ensures { result ≡ reading.read_class class.Move (formats_of 0) 0 w }
 {
-    Read::Instr(Instr::Move {
+    Ok(Instr::Move {
         wd: vd(w),
         ws: vs(w),
     })
 }
 
-pub fn cfcmsa(w: u32) -> Read
+pub fn cfcmsa(w: u32) -> Result<Instr, Unread>
     ensures { result ≡ reading.read_class class.Cfcmsa (formats_of 0) 0 w }
 {
-    Read::Instr(Instr::Cfcmsa {
+    Ok(Instr::Cfcmsa {
         rd: gd(w),
         cs: cs(w),
     })
 }
 
-pub fn ctcmsa(w: u32) -> Read
+pub fn ctcmsa(w: u32) -> Result<Instr, Unread>
     ensures { result ≡ reading.read_class class.Ctcmsa (formats_of 0) 0 w }
 {
-    Read::Instr(Instr::Ctcmsa {
+    Ok(Instr::Ctcmsa {
         cd: cd(w),
         rs: gs(w),
     })
 }
 
-pub fn vec(k: u16, w: u32) -> Read
+pub fn vec(k: u16, w: u32) -> Result<Instr, Unread>
     ensures { result ≡ reading.read_class class.Vec (formats_of 0) k w }
 {
-    Read::Instr(Instr::Vec {
+    Ok(Instr::Vec {
         op: Op(k),
         wd: vd(w),
         ws: vs(w),
@@ -246,7 +246,7 @@ pub fn vec(k: u16, w: u32) -> Read
     })
 }
 
-pub fn fill(f: u64, k: u16, w: u32) -> Read
+pub fn fill(f: u64, k: u16, w: u32) -> Result<Instr, Unread>
     ensures { result ≡ reading.read_class class.Fill (formats_of f) k w }
 {
     let df = width_at(w / 65536 % 4);
@@ -258,7 +258,7 @@ pub fn fill(f: u64, k: u16, w: u32) -> Read
     given(w, has(f, df), i)
 }
 
-pub fn count(f: u64, k: u16, w: u32) -> Read
+pub fn count(f: u64, k: u16, w: u32) -> Result<Instr, Unread>
     ensures { result ≡ reading.read_class class.Count (formats_of f) k w }
 {
     let df = width_at(w / 65536 % 4);
@@ -271,7 +271,7 @@ pub fn count(f: u64, k: u16, w: u32) -> Read
     given(w, has(f, df), i)
 }
 
-pub fn memory(f: u64, k: u16, w: u32) -> Read
+pub fn memory(f: u64, k: u16, w: u32) -> Result<Instr, Unread>
     ensures { result ≡ reading.read_class class.Memory (formats_of f) k w }
 {
     let df = width_at(w % 4);
@@ -285,7 +285,7 @@ pub fn memory(f: u64, k: u16, w: u32) -> Read
     given(w, has(f, df), i)
 }
 
-pub fn branch(f: u64, k: u16, w: u32) -> Read
+pub fn branch(f: u64, k: u16, w: u32) -> Result<Instr, Unread>
     ensures { result ≡ reading.read_class class.Branch (formats_of f) k w }
 {
     let df = df(w);
@@ -298,7 +298,7 @@ pub fn branch(f: u64, k: u16, w: u32) -> Read
     given(w, has(f, df), i)
 }
 
-pub fn branch_v(k: u16, w: u32) -> Read
+pub fn branch_v(k: u16, w: u32) -> Result<Instr, Unread>
     ensures { result ≡ reading.read_class class.BranchV (formats_of 0) k w }
 {
     let i = Instr::BranchV {
@@ -309,7 +309,7 @@ pub fn branch_v(k: u16, w: u32) -> Read
     given(w, w / 2097152 % 4 == 3, i)
 }
 
-pub fn scaled(k: u16, w: u32) -> Read
+pub fn scaled(k: u16, w: u32) -> Result<Instr, Unread>
     ensures { result ≡ reading.read_class class.Scaled (formats_of 0) k w }
 {
     let i = Instr::Scaled {
@@ -322,7 +322,7 @@ pub fn scaled(k: u16, w: u32) -> Read
     given(w, w / 256 % 8 == 0, i)
 }
 
-pub fn fixed(f: u64, k: u16, w: u32) -> Read
+pub fn fixed(f: u64, k: u16, w: u32) -> Result<Instr, Unread>
     ensures { result ≡ reading.read_class class.Fixed (formats_of f) k w }
 {
     let df = hw(w);

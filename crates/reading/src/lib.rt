@@ -14,11 +14,11 @@ ghost use Rattle.reading.specs.Reading as reading;
 
 use crate::classes::*;
 use crate::place::place_of;
-use isa::{Read, Unread};
+use isa::{Instr, Unread};
 use ops::byte_at;
 
 // By the numbers of the class and of the formats at the place k (ops/specs/Packed.antt).
-fn read_class(n: u64, f: u64, k: u16, w: u32) -> Read
+fn read_class(n: u64, f: u64, k: u16, w: u32) -> Result<Instr, Unread>
     ensures { result ≡ reading.read_class (class_of n) (formats_of f) k w }
 {
     match n {
@@ -44,13 +44,13 @@ fn read_class(n: u64, f: u64, k: u16, w: u32) -> Read
         20 => branch(f, k, w),
         21 => branch_v(k, w),
         22 => scaled(k, w),
-        23 => Read::Not(Unread::LeftOut),
+        23 => Err(Unread::LeftOut),
         24 => fixed(f, k, w),
         _ => vacant(w),
     }
 }
 
-pub fn read_word(w: u32) -> Read
+pub fn read_word(w: u32) -> Result<Instr, Unread>
     ensures { reading.Reads w result }
 {
     let k = place_of(w);

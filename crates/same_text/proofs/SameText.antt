@@ -9,10 +9,9 @@ use lib.Dec.{eqb, ltb}
 use lib.ListN.{length}
 use Rattle.isa.specs.declared.Instr.{Instr}
 use Rattle.isa.specs.declared.Instr.TheVariants as instr
-use Rattle.isa.specs.declared.Read.TheVariants as read
+use Rattle.std.specs.Prelude.{Ok, Some, None}
 use Rattle.isa.specs.declared.Width.{Width}
 use Rattle.isa.specs.declared.Width.TheVariants.{B, H, W, D}
-use Rattle.isa.specs.declared.Written.TheVariants.{Word, Refused}
 use Rattle.isa.specs.Widths as format
 use Rattle.fields.specs.Fields.{pick, fits, word_of}
 use Rattle.ops.specs.Classes.{Class}
@@ -245,12 +244,12 @@ word_back (instr.Fixed k df wd ws wt) f =
     ∙ rw (hw-letter df)
 
 -- the word of an instruction that was written
-written-word : (ok fit : Bool) (x w : ℕ) → pick ok (pick fit (Word x) Refused) Refused ≡ Word w → x ≡ w
+written-word : (ok fit : Bool) (x w : ℕ) → pick ok (pick fit (Some x) None) None ≡ Some w → x ≡ w
 written-word true true x w e = cc
 written-word true false x w e = let z : ◌≡◌ {A = ℕ} 0 1 = cc in absurd (omega arith)
 written-word false fit x w e = let z : ◌≡◌ {A = ℕ} 0 1 = cc in absurd (omega arith)
 
-text-back : (w : ℕ) (i : Instr) → w < 2 ^ 32 → read_of w ≡ read.Instr i → word_of_text (text_of w) ≡ w
+text-back : (w : ℕ) (i : Instr) → w < 2 ^ 32 → read_of w ≡ Ok i → word_of_text (text_of w) ≡ w
 unfolding write_of
 text-back w i h r =
     let l = layout_of i in

@@ -3,33 +3,33 @@ use Rattle.std.proofs.Common.{◌≡◌, ℕ, ◌+◌, ◌-◌, ◌%◌, ◌<◌
 use borrow.Author.Tests.{lt-leb}
 use Rattle.memory.specs.Bytes.{part, number}
 use Rattle.state.proofs.TestLaws.{and-false}
-use Rattle.state.specs.declared.fetch.Fetched.TheVariants.{Word, NoWord}
+use Rattle.std.specs.Prelude.{Some, None}
 use Rattle.state.specs.Fetch.{fetched}
 
 module _ (program : List ℕ) (base pc : ℕ) where
-  pub fetched-below : pc < base → fetched program base pc ≡ NoWord
+  pub fetched-below : pc < base → fetched program base pc ≡ None
   unfolding fetched
   fetched-below h = simp (lt-leb base pc h)
 
-  pub fetched-odd : ((pc - base) % 4 ≡ 0 → ⊥) → fetched program base pc ≡ NoWord
+  pub fetched-odd : ((pc - base) % 4 ≡ 0 → ⊥) → fetched program base pc ≡ None
   unfolding fetched
   fetched-odd h = simp (ne_eqb ((pc - base) % 4) 0 h, and-false)
 
-  pub fetched-past : length program < pc - base + 4 → fetched program base pc ≡ NoWord
+  pub fetched-past : length program < pc - base + 4 → fetched program base pc ≡ None
   unfolding fetched
   fetched-past h = simp (lt-leb (pc - base + 4) (length program) h, and-false)
 
-  pub fetched-word : base ≤ pc → (pc - base) % 4 ≡ 0 → pc - base + 4 ≤ length program → fetched program base pc ≡ Word (number (part program (pc - base) 4))
+  pub fetched-word : base ≤ pc → (pc - base) % 4 ≡ 0 → pc - base + 4 ≤ length program → fetched program base pc ≡ Some (number (part program (pc - base) 4))
   unfolding fetched
   fetched-word b m l = simp (le-leb base pc b, eq-eqb ((pc - base) % 4) 0 m, le-leb (pc - base + 4) (length program) l)
 
   -- where there is one
-  pub fetched-inside : {w : ℕ} → fetched program base pc ≡ Word w → (base ≤ pc) × (pc - base + 4 ≤ length program)
+  pub fetched-inside : {w : ℕ} → fetched program base pc ≡ Some w → (base ≤ pc) × (pc - base + 4 ≤ length program)
   unfolding fetched
   fetched-inside {w} = go (leb base pc) (eqb ((pc - base) % 4) 0) (leb (pc - base + 4) (length program)) refl refl
     where
       go : (a b c : Bool) → leb base pc ≡ a → leb (pc - base + 4) (length program) ≡ c
-          → cond (a && b && c) (Word (number (part program (pc - base) 4))) NoWord ≡ Word w
+          → cond (a && b && c) (Some (number (part program (pc - base) 4))) None ≡ Some w
           → (base ≤ pc) × (pc - base + 4 ≤ length program)
       go true true true h k q = (leb-true base pc h, leb-true (pc - base + 4) (length program) k)
       go true true false h k q = let z : ◌≡◌ {A = ℕ} 0 1 = cc in absurd (omega arith)

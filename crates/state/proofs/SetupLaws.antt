@@ -1,18 +1,45 @@
 -- What an accepted set-up keeps.
-use Rattle.std.proofs.Common.{◌≡◌, ℕ, ◌+◌, ◌%◌, ◌^◌, ◌≤◌, Bool, true, false, cond, not, ◌||◌, eqb, ltb, List, ◌∷◌, length, refl, arith, ltb-false}
-use Rattle.state.specs.declared.setup.Setup.TheVariants.{Accepted, Refused}
+use Rattle.std.proofs.Common.{◌≡◌, ℕ, ◌+◌, ◌%◌, ◌^◌, ◌≤◌, Bool, true, false, cond, not, ◌||◌, eqb, ltb, List, [], ◌∷◌, length, refl, arith, ltb-false}
+use Rattle.std.specs.Prelude.{Ok, Err, Result, ⊤}
+use Rattle.state.specs.declared.setup.Refusal.{Refusal}
 use Rattle.state.specs.Machine.{Env, Machine}
 use Rattle.state.specs.Setup.{Limit, refusal, first, program_bad, window_bad}
 use Rattle.state.proofs.TestLaws.{or_left, or_right, vectors-sized, generals-sized}
 
 -- a row that is passed is not broken, and the rest is accepted
-passed : (l : Limit) (ls : List Limit) → first (l ∷ ls) ≡ Accepted → (l.broken ≡ false) × (first ls ≡ Accepted)
+passed : (l : Limit) (ls : List Limit) → first (l ∷ ls) ≡ Ok tt → (l.broken ≡ false) × (first ls ≡ Ok tt)
 unfolding first
 passed l ls e = go l.broken e
   where
-    go : (b : Bool) → cond b (Refused l.refusal) (first ls) ≡ Accepted → (b ≡ false) × (first ls ≡ Accepted)
+    go : (b : Bool) → cond b (Err l.refusal) (first ls) ≡ Ok tt → (b ≡ false) × (first ls ≡ Ok tt)
     go true k = let z : ◌≡◌ {A = ℕ} 0 1 = cc in absurd (omega arith)
     go false k = (refl, k)
+
+-- rows that are tested one after the other: a broken one is the first, and behind one that is not the rest answers
+abbrev tested : Bool → Refusal → Result ⊤ Refusal
+tested b r = cond b (Err r) (Ok tt)
+
+abbrev row : Bool → Refusal → Limit
+row b r = record { broken = b; refusal = r }
+
+pub whole : (b : Bool) (r : Refusal) → ◌≡◌ {A = Result ⊤ Refusal} (Ok tt) (tested b r) → b ≡ false
+whole true r k = let z : ◌≡◌ {A = ℕ} 0 1 = cc in absurd (omega arith)
+whole false r k = refl
+
+pub here : (b : Bool) (r x : Refusal) (ls : List Limit) → ◌≡◌ {A = Result ⊤ Refusal} (Err x) (tested b r)
+    → Err x ≡ first (row b r ∷ ls)
+unfolding first
+here true r x ls k = k
+here false r x ls k = let z : ◌≡◌ {A = ℕ} 0 1 = cc in absurd (omega arith)
+
+pub next : (b : Bool) (r : Refusal) (q : Result ⊤ Refusal) (ls : List Limit)
+    → ◌≡◌ {A = Result ⊤ Refusal} (Ok tt) (tested b r) → q ≡ first ls → q ≡ first (row b r ∷ ls)
+unfolding first
+next b r q ls e k = rw (whole b r e) k
+
+pub last : (b : Bool) (r : Refusal) (q : Result ⊤ Refusal) → q ≡ tested b r → q ≡ first (row b r ∷ [])
+unfolding first
+last b r q k = k
 
 -- a window that keeps its limits is small, and ends at 2^64 or before
 window-small : (base n : ℕ) → window_bad base n ≡ false → n ≤ 1048576
@@ -36,7 +63,7 @@ pub record Sized (e : Env) (m : Machine) : Type 0 where
   pub table : e.board.table + length e.table ≤ 2 ^ 64
   pub work : e.board.work + length m.work ≤ 2 ^ 64
 
-pub accepted : (p : List ℕ) (e : Env) (m : Machine) → refusal p e m ≡ Accepted → Sized e m
+pub accepted : (p : List ℕ) (e : Env) (m : Machine) → refusal p e m ≡ Ok tt → Sized e m
 unfolding refusal
 accepted p e m r =
     let one = passed _ _ r in
@@ -53,7 +80,7 @@ accepted p e m r =
       work = window-ends e.board.work (length m.work) (or_right t w three.0);
     }
 
-pub program-accepted : (p : List ℕ) (e : Env) (m : Machine) → refusal p e m ≡ Accepted
+pub program-accepted : (p : List ℕ) (e : Env) (m : Machine) → refusal p e m ≡ Ok tt
     → program_bad e.board.program (length p) ≡ false
 unfolding refusal
 program-accepted p e m r = (passed _ _ (passed _ _ r).1).0

@@ -5,26 +5,25 @@ use native.Mathlib.Decide.{dec_le}
 use borrow.Author.Tests.{lt-leb}
 use Rattle.state.proofs.TestLaws.{and-false, ltb-same}
 use Rattle.state.specs.declared.board.Board.{Board}
-use Rattle.state.specs.declared.windows.Found.{Found}
-use Rattle.state.specs.declared.windows.Found.TheVariants.{At, Nowhere}
+use Rattle.std.specs.Prelude.{Some, None, Option}
 use Rattle.state.specs.declared.windows.Spot.TheVariants.{Table, Work, Outside}
 use Rattle.state.specs.Windows.{placed, lies_in, first_outside, missing, or_else, or_work, spot_of}
 
 module _ (base len a : ℕ) where
-  pub placed_at : base ≤ a → a + 16 ≤ base + len → placed base len a ≡ At (a - base)
+  pub placed_at : base ≤ a → a + 16 ≤ base + len → placed base len a ≡ Some (a - base)
   unfolding placed
   placed_at h k = simp (le-leb base a h, le-leb (a + 16) (base + len) k)
 
-  pub placed_below : a < base → placed base len a ≡ Nowhere
+  pub placed_below : a < base → placed base len a ≡ None
   unfolding placed
   placed_below h = simp (lt-leb base a h)
 
-  pub placed_past : base + len < a + 16 → placed base len a ≡ Nowhere
+  pub placed_past : base + len < a + 16 → placed base len a ≡ None
   unfolding placed
   placed_past k = simp (lt-leb (a + 16) (base + len) k, and-false)
 
   -- what a place says: the window holds the first byte and the last
-  pub placed-fits : (i : ℕ) → placed base len a ≡ At i → (base ≤ a) × (a + 16 ≤ base + len) × (i ≡ a - base)
+  pub placed-fits : (i : ℕ) → placed base len a ≡ Some i → (base ≤ a) × (a + 16 ≤ base + len) × (i ≡ a - base)
   placed-fits i e = go (dec_le base a) (dec_le (a + 16) (base + len))
     where
       go : Dec (base ≤ a) → Dec (a + 16 ≤ base + len) → (base ≤ a) × (a + 16 ≤ base + len) × (i ≡ a - base)
@@ -37,10 +36,10 @@ module _ (b : Board) (table work a : ℕ) where
   abbrev missing_here : ℕ
   missing_here = missing b table work a
 
-  abbrev in_table : Found
+  abbrev in_table : Option ℕ
   in_table = placed b.table table a
 
-  abbrev in_work : Found
+  abbrev in_work : Option ℕ
   in_work = placed b.work work a
 
   -- the bytes that a spot names are there
@@ -48,38 +47,38 @@ module _ (b : Board) (table work a : ℕ) where
       → (b.table ≤ a) × (a + 16 ≤ b.table + table) × (i ≡ a - b.table)
   spot-table i e = go in_table refl e
     where
-      go : (f : Found) → in_table ≡ f → or_else missing_here f in_work ≡ Table i
+      go : (f : Option ℕ) → in_table ≡ f → or_else missing_here f in_work ≡ Table i
           → (b.table ≤ a) × (a + 16 ≤ b.table + table) × (i ≡ a - b.table)
-      go (At j) p q = placed-fits b.table table a i (cc)
-      go Nowhere p q = go₂ in_work q
+      go (Some j) p q = placed-fits b.table table a i (cc)
+      go None p q = go₂ in_work q
         where
-          go₂ : (f : Found) → or_work missing_here f ≡ Table i
+          go₂ : (f : Option ℕ) → or_work missing_here f ≡ Table i
               → (b.table ≤ a) × (a + 16 ≤ b.table + table) × (i ≡ a - b.table)
-          go₂ (At j) r = let z : ◌≡◌ {A = ℕ} 0 1 = cc in absurd (omega arith)
-          go₂ Nowhere r = let z : ◌≡◌ {A = ℕ} 0 1 = cc in absurd (omega arith)
+          go₂ (Some j) r = let z : ◌≡◌ {A = ℕ} 0 1 = cc in absurd (omega arith)
+          go₂ None r = let z : ◌≡◌ {A = ℕ} 0 1 = cc in absurd (omega arith)
 
   pub spot-work : (i : ℕ) → spot_of b table work a ≡ Work i
       → (b.work ≤ a) × (a + 16 ≤ b.work + work) × (i ≡ a - b.work)
   spot-work i e = go in_table e
     where
-      go : (f : Found) → or_else missing_here f in_work ≡ Work i
+      go : (f : Option ℕ) → or_else missing_here f in_work ≡ Work i
           → (b.work ≤ a) × (a + 16 ≤ b.work + work) × (i ≡ a - b.work)
-      go (At j) q = let z : ◌≡◌ {A = ℕ} 0 1 = cc in absurd (omega arith)
-      go Nowhere q = go₂ in_work refl q
+      go (Some j) q = let z : ◌≡◌ {A = ℕ} 0 1 = cc in absurd (omega arith)
+      go None q = go₂ in_work refl q
         where
-          go₂ : (f : Found) → in_work ≡ f → or_work missing_here f ≡ Work i
+          go₂ : (f : Option ℕ) → in_work ≡ f → or_work missing_here f ≡ Work i
               → (b.work ≤ a) × (a + 16 ≤ b.work + work) × (i ≡ a - b.work)
-          go₂ (At j) p r = placed-fits b.work work a i (cc)
-          go₂ Nowhere p r = let z : ◌≡◌ {A = ℕ} 0 1 = cc in absurd (omega arith)
+          go₂ (Some j) p r = placed-fits b.work work a i (cc)
+          go₂ None p r = let z : ◌≡◌ {A = ℕ} 0 1 = cc in absurd (omega arith)
 
   -- and one that names none has the address
   pub spot-outside : (x : ℕ) → spot_of b table work a ≡ Outside x → x ≡ missing b table work a
   spot-outside x e = go in_table in_work e
     where
-      go : (t w : Found) → or_else missing_here t w ≡ Outside x → x ≡ missing_here
-      go (At j) w q = let z : ◌≡◌ {A = ℕ} 0 1 = cc in absurd (omega arith)
-      go Nowhere (At j) q = let z : ◌≡◌ {A = ℕ} 0 1 = cc in absurd (omega arith)
-      go Nowhere Nowhere q = cc
+      go : (t w : Option ℕ) → or_else missing_here t w ≡ Outside x → x ≡ missing_here
+      go (Some j) w q = let z : ◌≡◌ {A = ℕ} 0 1 = cc in absurd (omega arith)
+      go None (Some j) q = let z : ◌≡◌ {A = ℕ} 0 1 = cc in absurd (omega arith)
+      go None None q = cc
 
 module _ (base len x : ℕ) where
   pub lies-below : x < base → lies_in base len x ≡ false

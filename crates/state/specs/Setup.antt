@@ -1,22 +1,20 @@
 -- The set-up limits: document 01's table, a row a limit, in its order.
-use Rattle.std.specs.Prelude.{◌≡◌, ℕ, ◌+◌, ◌%◌, ◌^◌, Bool, false, cond, not, ◌&&◌, ◌||◌, List, [], ◌∷◌, length, ◌==◌, nat_lt}
+use Rattle.std.specs.Prelude.{◌≡◌, ℕ, ◌+◌, ◌%◌, ◌^◌, Bool, false, cond, not, ◌&&◌, ◌||◌, List, [], ◌∷◌, length, ◌==◌, nat_lt, Ok, Err, Result, ⊤}
 use Rattle.memory.specs.Bytes.{part, number}
 use Rattle.state.specs.declared.control.Control.{Control}
 use Rattle.state.specs.declared.control.Mark.{Mark}
 use Rattle.state.specs.declared.control.Mark.TheVariants.{Clear, NotTaken, Taken}
 use Rattle.state.specs.declared.setup.Refusal.{Refusal}
 use Rattle.state.specs.declared.setup.Refusal.TheVariants.{Registers, Program, WindowSize, SharedAddress, State}
-use Rattle.state.specs.declared.setup.Setup.{Setup}
-use Rattle.state.specs.declared.setup.Setup.TheVariants.{Accepted, Refused}
 use Rattle.state.specs.declared.board.Board.{Board}
 use Rattle.state.specs.Csr.{masked}
 use Rattle.state.specs.Machine.{Env, Machine}
 use Rattle.state.specs.Numbers.{refusal_number}
 
 -- document 01's number of what the limits say; 0 where the set-up is accepted
-abbrev pub setup_number : Setup → ℕ
-setup_number Accepted = 0
-setup_number (Refused r) = refusal_number r
+abbrev pub setup_number : Result ⊤ Refusal → ℕ
+setup_number (Ok tt) = 0
+setup_number (Err r) = refusal_number r
 
 -- 512 bytes of vector registers and 32 general registers of 8
 abbrev pub registers_bad : ℕ → ℕ → Bool
@@ -51,9 +49,9 @@ abbrev row : Bool → Refusal → Limit
 row b r = record { broken = b; refusal = r }
 
 -- the first row that is broken
-unfoldable pub first : List Limit → Setup
-first [] = Accepted
-first (l ∷ ls) = cond l.broken (Refused l.refusal) (first ls)
+unfoldable pub first : List Limit → Result ⊤ Refusal
+first [] = Ok tt
+first (l ∷ ls) = cond l.broken (Err l.refusal) (first ls)
 
 -- 2 to 5, for a program, a table and a work window of these lengths and general registers of these bytes
 abbrev pub later_limits : Board → ℕ → ℕ → List ℕ → ℕ → Control → List Limit
@@ -69,9 +67,9 @@ limits program e m =
     row (registers_bad (length m.vec) (length m.gen)) Registers
     ∷ later_limits e.board (length program) (length e.table) m.gen (length m.work) m.ctl
 
-unfoldable pub refusal : List ℕ → Env → Machine → Setup
+unfoldable pub refusal : List ℕ → Env → Machine → Result ⊤ Refusal
 refusal program e m = first (limits program e m)
 
 -- what checking a set-up promises: the answer has the definition's number
-pub record Checks (s r : Setup) : Type 0 where
+pub record Checks (s r : Result ⊤ Refusal) : Type 0 where
   pub number : setup_number r ≡ setup_number s

@@ -1,7 +1,7 @@
 // The board that a kernel runs on, by value: all that no step changes of a set-up, beside the bytes lent for reading.
 use order::Order;
 
-#[derive(Clone, Copy)]
+#[derive(Clone, Copy, Debug, PartialEq, Eq)]
 pub struct Board {
     // where the program, the table and the work window begin
     pub program: u64,

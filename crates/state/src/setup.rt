@@ -1,5 +1,5 @@
 // The set-up limits 1 to 5: a step or a run is refused by the first that is broken, and then changes nothing.
-ghost use Rattle.std.specs.Prelude.{◌≡◌, ◌+◌, ◌^◌, length, if◌then◌else◌, nat_lt};
+ghost use Rattle.std.specs.Prelude.{◌≡◌, ◌+◌, ◌^◌, length, if◌then◌else◌, nat_lt, Ok, Err};
 ghost use Rattle.state.specs.Machine.{env, machine};
 ghost use Rattle.state.specs.Csr.{masked};
 ghost use Rattle.state.specs.Setup.{registers_bad, program_bad, window_bad, shares, target_bad, state_bad, later_limits, first, refusal, Checks};
@@ -8,20 +8,13 @@ use crate::board::Board;
 use crate::control::{Control, Mark};
 
 // Why a set-up is refused: 1 to 5.
-#[derive(Clone, Copy)]
+#[derive(Clone, Copy, Debug, PartialEq, Eq)]
 pub enum Refusal {
     Registers,
     Program,
     WindowSize,
     SharedAddress,
     State,
-}
-
-// What the limits say of a set-up.
-#[derive(Clone, Copy)]
-pub enum Setup {
-    Accepted,
-    Refused(Refusal),
 }
 
 fn registers_bad(vectors: usize, generals: usize) -> bool
@@ -72,8 +65,7 @@ fn target_bad(k: Mark) -> bool
     ensures { result ≡ target_bad k }
 {
     match k {
-        Mark::Clear => false,
-        Mark::NotTaken => false,
+        Mark::Clear | Mark::NotTaken => false,
         Mark::Taken(t) => t % 4 != 0,
     }
 }
@@ -88,15 +80,14 @@ pub fn mask(x: u64) -> u32
 fn state_bad(zero: u64, c: Control) -> bool
     ensures { result ≡ state_bad zero c }
 {
-    let mark = c.mark;
-    (zero != 0) | (c.pc % 4 != 0) | target_bad(mark) | (mask(c.csr as u64) != c.csr)
+    (zero != 0) | (c.pc % 4 != 0) | target_bad(c.mark) | (mask(c.csr as u64) != c.csr)
 }
 
-// One row of the table of limits, before the rest.
-fn unless(broken: bool, r: Refusal, rest: Setup) -> Setup
-    ensures { result ≡ (if broken then Setup.Refused r else rest) }
+// One row of the table of limits.
+fn unless(broken: bool, r: Refusal) -> Result<(), Refusal>
+    ensures { result ≡ (if broken then Err r else Ok tt) }
 {
-    if broken { Setup::Refused(r) } else { rest }
+    if broken { Err(r) } else { Ok(()) }
 }
 
 // The limits 2 to 5.
@@ -107,27 +98,16 @@ fn later(
     generals: &[u8],
     work: usize,
     c: Control,
-) -> Setup
+) -> Result<(), Refusal>
     requires { length generals.now ≡ 256 }
     ensures { result ≡ first (later_limits board program table generals.now work c) }
 {
-    let state = unless(
-        state_bad(memory::eight(generals, 0), c),
-        Refusal::State,
-        Setup::Accepted,
-    );
-    let shared = windows_share(board.table, table, board.work, work);
+    unless(program_bad(board.program, program), Refusal::Program)?;
     let sizes = window_bad(board.table, table) | window_bad(board.work, work);
-    let windows = unless(
-        sizes,
-        Refusal::WindowSize,
-        unless(shared, Refusal::SharedAddress, state),
-    );
-    unless(
-        program_bad(board.program, program),
-        Refusal::Program,
-        windows,
-    )
+    unless(sizes, Refusal::WindowSize)?;
+    let shared = windows_share(board.table, table, board.work, work);
+    unless(shared, Refusal::SharedAddress)?;
+    unless(state_bad(memory::eight(generals, 0), c), Refusal::State)
 }
 
 // The first limit that is broken.
@@ -139,12 +119,10 @@ pub fn check(
     generals: &[u8],
     work: &[u8],
     c: Control,
-) -> Setup
+) -> Result<(), Refusal>
     ensures { Checks (refusal program.now (env board table.now) (machine vectors.now generals.now work.now c)) result }
 {
-    if registers_bad(vectors.len(), generals.len()) {
-        Setup::Refused(Refusal::Registers)
-    } else {
-        later(board, program.len(), table.len(), generals, work.len(), c)
-    }
+    let registers = registers_bad(vectors.len(), generals.len());
+    unless(registers, Refusal::Registers)?;
+    later(board, program.len(), table.len(), generals, work.len(), c)
 }

@@ -3,7 +3,7 @@
 use isa::Unread;
 
 // 11 to 19.
-#[derive(Clone, Copy)]
+#[derive(Clone, Copy, Debug, PartialEq, Eq)]
 pub enum Stop {
     NoWord,
     Unread(Unread),

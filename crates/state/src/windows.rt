@@ -4,29 +4,19 @@ ghost use Rattle.std.specs.Prelude.{◌≡◌};
 ghost use Rattle.state.specs.Windows.{placed, lies_in, first_outside, missing, spot_of};
 
 use crate::board::Board;
-use std::num::wrapping_add_u64;
-
-#[derive(Clone, Copy)]
-pub enum Found {
-    At(usize),
-    Nowhere,
-}
 
 // The place of the sixteen bytes from a in a window of len bytes from base.
-fn find(base: u64, len: usize, a: u64) -> Found
+fn find(base: u64, len: usize, a: u64) -> Option<usize>
     ensures { result ≡ placed base len a }
 {
-    if a < base {
-        return Found::Nowhere;
-    }
-    let d = a - base;
+    let d = a.checked_sub(base)?;
     if len < 16 {
-        return Found::Nowhere;
+        return None;
     }
     if d <= (len - 16) as u64 {
-        Found::At(d as usize)
+        Some(d as usize)
     } else {
-        Found::Nowhere
+        None
     }
 }
 
@@ -44,17 +34,13 @@ fn lies_in(base: u64, len: usize, x: u64) -> bool
 fn first_outside(base: u64, len: usize, a: u64) -> u64
     ensures { result ≡ first_outside 16 base len a }
 {
-    let mut x = a;
-    let mut left: u64 = 16;
-    while 0 < left {
-        if lies_in(base, len, x) {
-            x = wrapping_add_u64(x, 1);
-            left -= 1;
-        } else {
+    for k in 0..16 {
+        let x = a.wrapping_add(k);
+        if !lies_in(base, len, x) {
             return x;
         }
     }
-    x
+    a.wrapping_add(16)
 }
 
 // The first of the sixteen addresses from a that does not lie in the window holding a. Where neither window holds a,
@@ -68,7 +54,7 @@ fn missing_of(board: Board, table: usize, work: usize, a: u64) -> u64
     first_outside(board.work, work, a)
 }
 
-#[derive(Clone, Copy)]
+#[derive(Clone, Copy, Debug, PartialEq, Eq)]
 pub enum Spot {
     Table(usize),
     Work(usize),
@@ -80,11 +66,11 @@ pub enum Spot {
 pub fn locate(board: Board, table: usize, work: usize, a: u64) -> Spot
     ensures { result ≡ spot_of board table work a }
 {
-    match find(board.table, table, a) {
-        Found::At(i) => Spot::Table(i),
-        Found::Nowhere => match find(board.work, work, a) {
-            Found::At(i) => Spot::Work(i),
-            Found::Nowhere => Spot::Outside(missing_of(board, table, work, a)),
-        },
+    if let Some(i) = find(board.table, table, a) {
+        return Spot::Table(i);
+    }
+    match find(board.work, work, a) {
+        Some(i) => Spot::Work(i),
+        None => Spot::Outside(missing_of(board, table, work, a)),
     }
 }

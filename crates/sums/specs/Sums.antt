@@ -1,6 +1,6 @@
 -- Document 01's sums marked P, in its order, one list: what the definitions give of an instruction, and what the paper
 -- says; request 1/12's, of division by 0; request 2/12's, of fixed-point multiplies; and request 7/12's, by Table 3.1.
-use Rattle.std.specs.Prelude.{◌≡◌, true, List, [], ◌∷◌, ◌++◌, ℕ, ◌+◌, ◌-◌, ◌*◌, ◌/◌, ◌%◌, ◌^◌, replicate}
+use Rattle.std.specs.Prelude.{◌≡◌, true, List, [], ◌∷◌, ◌++◌, ℕ, ◌+◌, ◌-◌, ◌*◌, ◌/◌, ◌%◌, ◌^◌, replicate, Ok, Some}
 use Prim.Native.String.{String}
 use Rattle.isa.specs.declared.Across.TheVariants.{HsubS}
 use Rattle.isa.specs.declared.Addition.TheVariants.{AddA, AddsA, AveS, AverS}
@@ -15,13 +15,11 @@ use Rattle.isa.specs.declared.Instr.TheVariants as instr
 use Rattle.isa.specs.declared.Op.{Op}
 use Rattle.isa.specs.declared.Product.{Product}
 use Rattle.isa.specs.declared.Product.TheVariants.{DivS, DivU, ModS, ModU}
-use Rattle.isa.specs.declared.Read.TheVariants as read
 use Rattle.isa.specs.declared.Subtraction.TheVariants.{SubsuuS, AsubS}
 use Rattle.isa.specs.declared.Three.TheVariants as three
 use Rattle.isa.specs.declared.Vreg.{Vreg}
 use Rattle.isa.specs.declared.Width.{Width}
 use Rattle.isa.specs.declared.Width.TheVariants.{B, W, D}
-use Rattle.isa.specs.declared.Written.TheVariants.{Word}
 use Rattle.memory.specs.Bytes.{number, bytes_of}
 use Rattle.memory.specs.Value.{register}
 use Rattle.order.specs.declared.Order.{Order}
@@ -152,8 +150,8 @@ of_words o d s t r = sum (fixed_of o 32 (words d) (words s) (words t)) (words r)
 -- product of 1 is not clamped before the sum; minus half a unit is cut to minus one unit, and rounded to 0
 abbrev pub multiplies : List Sum
 multiplies =
-    sum (write_of msubr) (Word 0x7BBB5DDC)
-    ∷ sum (read_of 0x7BBB5DDC) (read.Instr msubr)
+    sum (write_of msubr) (Some 0x7BBB5DDC)
+    ∷ sum (read_of 0x7BBB5DDC) (Ok msubr)
     ∷ of_halves MulQ 0x0000 0x8000 0x8000 0x7FFF
     ∷ of_halves MulrQ 0x0000 0x4000 0x0001 0x0001
     ∷ of_halves MulQ 0x0000 0x4000 0x0001 0x0000
@@ -219,12 +217,12 @@ orders a =
 -- e is any set-up, v, g and w are any registers and work window, a is any address, ws and wt are any registers
 abbrev pub sums : Env → List ℕ → List ℕ → List ℕ → ℕ → ℕ → ℕ → List Sum
 sums e v g w a ws wt =
-    sum (write_of addv) (Word 0x7842094E)
-    ∷ sum (read_of 0x7842094E) (read.Instr addv)
-    ∷ sum (write_of addvi) (Word 0x785109C6)
-    ∷ sum (read_of 0x785109C6) (read.Instr addvi)
-    ∷ sum (write_of bnz) (Word 0x4783FFFE)
-    ∷ sum (read_of 0x4783FFFE) (read.Instr bnz)
+    sum (write_of addv) (Some 0x7842094E)
+    ∷ sum (read_of 0x7842094E) (Ok addv)
+    ∷ sum (write_of addvi) (Some 0x785109C6)
+    ∷ sum (read_of 0x785109C6) (Ok addvi)
+    ∷ sum (write_of bnz) (Some 0x4783FFFE)
+    ∷ sum (read_of 0x4783FFFE) (Ok bnz)
     ∷ sum (plan_of e (at a no_zero g w) bnz) (plan.Branch (Taken ((a + (2 ^ 64 - 4)) % 2 ^ 64)))
     ∷ sum (byte (arith.Addition AddA) 0x80 0x80) (bytes 0x00)
     ∷ sum (byte (arith.Addition AddsA) 0x80 0x80) (bytes 0x7F)

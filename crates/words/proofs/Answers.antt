@@ -8,8 +8,8 @@ use lib.ListN.{get_or}
 use Rattle.isa.specs.declared.Instr.{Instr}
 use Rattle.isa.specs.declared.Instr.TheVariants as instr
 use Rattle.isa.specs.declared.Unread.TheVariants.{Unassigned, LeftOut, Other}
-use Rattle.isa.specs.declared.Read.{Read}
-use Rattle.isa.specs.declared.Read.TheVariants as read
+use Rattle.std.specs.Prelude.{Ok, Err, Result}
+use Rattle.isa.specs.declared.Unread.{Unread}
 use Rattle.isa.specs.Widths as format
 use Rattle.isa.proofs.Apart.{read-apart, written_apart}
 use Rattle.ops.specs.Classes as class
@@ -25,12 +25,12 @@ use Rattle.words.proofs.ReadWrite.{Back, back, read-write}
 use Rattle.words.proofs.Blocks.{class-is}
 use Rattle.words.proofs.WriteRead.{Fit, fit, of, of-index}
 
-answer : (w : ℕ) (r : Read) → Back w r → Answer w r
+answer : (w : ℕ) (r : Result Instr Unread) → Back w r → Answer w r
 unfolding Back
-answer w (read.Instr i) b = instruction i refl
-answer w (read.Not Unassigned) b = unassigned (sym b) refl
-answer w (read.Not LeftOut) b = left_out (sym b) refl
-answer w (read.Not Other) b = other (λ e. b (sym e)) refl
+answer w (Ok i) b = instruction i refl
+answer w (Err Unassigned) b = unassigned (sym b) refl
+answer w (Err LeftOut) b = left_out (sym b) refl
+answer w (Err Other) b = other (λ e. b (sym e)) refl
 
 pub one_answer : theorems.OneAnswer
 one_answer w h = answer w (read_of w) (back w h)

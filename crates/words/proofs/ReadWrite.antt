@@ -10,9 +10,8 @@ use Rattle.isa.specs.declared.Width.TheVariants.{B, H, W, D}
 use Rattle.isa.specs.declared.Instr.{Instr}
 use Rattle.isa.specs.declared.Instr.TheVariants as instr
 use Rattle.isa.specs.declared.Unread.TheVariants.{Unassigned, LeftOut, Other}
-use Rattle.isa.specs.declared.Read.{Read}
-use Rattle.isa.specs.declared.Read.TheVariants as read
-use Rattle.isa.specs.declared.Written.TheVariants.{Word}
+use Rattle.std.specs.Prelude.{Ok, Err, Result, Some}
+use Rattle.isa.specs.declared.Unread.{Unread}
 use Rattle.isa.specs.Widths as format
 use Rattle.isa.specs.Widths.{width_at, width_code, hw_at, hw_code}
 use Rattle.ops.specs.Classes.{Class}
@@ -35,7 +34,7 @@ use Rattle.words.proofs.Blocks.{Facts, inside, cond-elim, found, stood, at-28, s
 
 -- an instruction whose fields are those of the word is written as the word
 writes : (i : Instr) (w : ℕ) → w < 4294967296 → (layout_of i).ok ≡ true
-    → (layout_of i).values ≡ cut (layout_of i).widths w → write_of i ≡ Word w
+    → (layout_of i).values ≡ cut (layout_of i).widths w → write_of i ≡ Some w
 unfolding write_of
 writes i w h ok e =
     let l : w < 2 ^ total (layout_of i).widths = rw (shaped i).whole h in
@@ -60,11 +59,11 @@ fields : {a b c d e f g a' b' c' d' e' f' g' : ℕ} → a ≡ a' → b ≡ b' �
 fields p q r s t u v = λ i. p i ∷ q i ∷ r i ∷ s i ∷ t i ∷ u i ∷ v i ∷ []
 
 -- what is to be shown of an answer: the major opcode where the word is not read, the round trip where it is
-unfoldable pub Back : ℕ → Read → Type 0
-Back w (read.Not Unassigned) = 30 ≡ bits w 31 26
-Back w (read.Not LeftOut) = 30 ≡ bits w 31 26
-Back w (read.Not Other) = 30 ≡ bits w 31 26 → ⊥
-Back w (read.Instr i) = write_of i ≡ Word w
+unfoldable pub Back : ℕ → Result Instr Unread → Type 0
+Back w (Err Unassigned) = 30 ≡ bits w 31 26
+Back w (Err LeftOut) = 30 ≡ bits w 31 26
+Back w (Err Other) = 30 ≡ bits w 31 26 → ⊥
+Back w (Ok i) = write_of i ≡ Some w
 
 -- a field that holds a format and an index is that of both
 abbrev BitOk : ℕ → Index → Type 0
@@ -103,18 +102,18 @@ module _ (w : ℕ) (h : w < 4294967296) where
   df-code : width_code (df w) ≡ bits w 22 21
   df-code = code-width (bits w 22 21) (omega arith)
 
-  instr-back : (i : Instr) → write_of i ≡ Word w → Back w (read.Instr i)
+  instr-back : (i : Instr) → write_of i ≡ Some w → Back w (Ok i)
   unfolding Back
   instr-back i e = e
 
   vacant-back : Back w (vacant w)
   unfolding Back
   vacant-back =
-      cond-elim (λ u. Back w (read.Not u)) (eqb (bits w 31 26) 30) _ _ (λ e. sym (eqb-true _ _ e))
+      cond-elim (λ u. Back w (Err u)) (eqb (bits w 31 26) 30) _ _ (λ e. sym (eqb-true _ _ e))
       (λ n m. eqb-false _ _ n (sym m))
 
   -- an answer that is given where a test holds
-  given_back : (ok : Bool) (i : Instr) → (ok ≡ true → write_of i ≡ Word w) → Back w (reading.given w ok i)
+  given_back : (ok : Bool) (i : Instr) → (ok ≡ true → write_of i ≡ Some w) → Back w (reading.given w ok i)
   given_back ok i f = cond-elim (Back w) ok _ _ (λ e. instr-back i (f e)) (λ e. vacant-back)
 
   -- under the minor opcodes with three bits for the operation: 3R, I5 and BIT
@@ -168,13 +167,13 @@ module _ (w : ℕ) (h : w < 4294967296) where
   -- with 111110
   control-back : (i : Instr) (n : ℕ) → k ≡ place.elm62 n
       → layout_of i ≡ writing.elm_layout true n 62 (bits w 15 11) (bits w 10 6)
-      → inside elm62 (place.elm62 n) ≡ true → n < 16 → write_of i ≡ Word w
+      → inside elm62 (place.elm62 n) ≡ true → n < 16 → write_of i ≡ Some w
   control-back i n q e t small =
       let f = found w elm62 (rw q t) in
       let p = f.1 in
       writes i w h (rw e) (rw e (fields f.0.0 (omega arith) f.0.2 refl refl f.0.1 none))
 
-  left_back : (b : Bool) → cond b (inside vec k) (inside float k) ≡ true → Back w (read.Not LeftOut)
+  left_back : (b : Bool) → cond b (inside vec k) (inside float k) ≡ true → Back w (Err LeftOut)
   unfolding Back
   left_back true t = (found w vec t).0.0
   left_back false t = (found w float t).0.0

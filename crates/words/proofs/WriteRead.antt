@@ -9,9 +9,7 @@ use Rattle.isa.specs.declared.Width.{Width}
 use Rattle.isa.specs.declared.Width.TheVariants.{B, H, W, D}
 use Rattle.isa.specs.declared.Instr.{Instr}
 use Rattle.isa.specs.declared.Instr.TheVariants as instr
-use Rattle.isa.specs.declared.Read.TheVariants as read
-use Rattle.isa.specs.declared.Written.{Written}
-use Rattle.isa.specs.declared.Written.TheVariants.{Refused, Word}
+use Rattle.std.specs.Prelude.{Ok, Option, Some, None}
 use Rattle.isa.specs.Widths as format
 use Rattle.isa.specs.Widths.{width_at, width_code}
 use Rattle.ops.specs.Classes.{Class}
@@ -39,15 +37,15 @@ pub record Fit (i : Instr) (w : ℕ) : Type 0 where
   pub held : cut (layout_of i).widths w ≡ (layout_of i).values
   pub fitting : fits (layout_of i).widths (layout_of i).values ≡ true
 
-pick_word : (b : Bool) (v w : ℕ) → pick b (Word v) Refused ≡ Word w → (b ≡ true) × (v ≡ w)
+pick_word : (b : Bool) (v w : ℕ) → pick b (Some v) None ≡ Some w → (b ≡ true) × (v ≡ w)
 pick_word true v w e = (refl, cc)
 pick_word false v w e = absurd (let z : ◌≡◌ {A = ℕ} 0 1 = cc in omega arith)
 
-sealed-word : (b : Bool) (a : Written) (w : ℕ) → pick b a Refused ≡ Word w → (b ≡ true) × (a ≡ Word w)
+sealed-word : (b : Bool) (a : Option ℕ) (w : ℕ) → pick b a None ≡ Some w → (b ≡ true) × (a ≡ Some w)
 sealed-word true a w e = (refl, e)
 sealed-word false a w e = absurd (let z : ◌≡◌ {A = ℕ} 0 1 = cc in omega arith)
 
-pub fit : (i : Instr) (w : ℕ) → write_of i ≡ Word w → Fit i w
+pub fit : (i : Instr) (w : ℕ) → write_of i ≡ Some w → Fit i w
 unfolding write_of
 fit i w e =
     let l = layout_of i in
@@ -158,7 +156,7 @@ by-elm w k c df n e s ok a b x m = by w k c (to-elm w k a b m (rw x (not-control
 
 -- ---- the answer by the instruction
 
-reads : (i : Instr) (w : ℕ) → Fit i w → read_of w ≡ read.Instr i
+reads : (i : Instr) (w : ℕ) → Fit i w → read_of w ≡ Ok i
 reads (instr.Three k df wd ws wt) w f =
     let h = f.held in
     let o = of class.Three k.0 (has_form k.0 df) f.ok in

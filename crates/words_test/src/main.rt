@@ -5,9 +5,7 @@
 mod built;
 
 use crate::built::{half_of, instr_of};
-use isa::Written;
 use line_writer::write_line;
-use listing::Line;
 use std::io;
 use streams::read_full;
 use writing::write_word;
@@ -28,15 +26,15 @@ fn word_of(r: [u8; 32]) -> u32 {
 fn decodes(r: [u8; 32]) -> bool {
     let mut line = [0u8; 64];
     match write_line(&mut line, 0, word_of(r)) {
-        Line::Refused => false,
-        Line::Length(n) => n == r[5] as usize && &line[19..45] == &r[6..],
+        None => false,
+        Some(n) => n == r[5] as usize && &line[19..45] == &r[6..],
     }
 }
 
 fn encodes(r: [u8; 32]) -> bool {
     match write_word(instr_of(r)) {
-        Written::Refused => r[5] == 6,
-        Written::Word(w) => r[5] == 0 && w == word_of(r),
+        None => r[5] == 6,
+        Some(w) => r[5] == 0 && w == word_of(r),
     }
 }
 

@@ -1,13 +1,11 @@
 -- The word of an instruction: a layout for each class, widths and values of its fields, the highest first. The
 -- operation's place goes into the word as it is.
-use Rattle.std.specs.Prelude.{◌≡◌, Bool, true, List, [], ◌∷◌, ℕ, ◌+◌, ◌/◌, ◌%◌, eqb, ltb, length}
+use Rattle.std.specs.Prelude.{◌≡◌, Bool, true, List, [], ◌∷◌, ℕ, ◌+◌, ◌/◌, ◌%◌, eqb, ltb, length, Option, Some, None}
 use Rattle.isa.specs.declared.Width.{Width}
 use Rattle.isa.specs.declared.Width.TheVariants.{B, H, W, D}
 use Rattle.isa.specs.declared.Op.{Op}
 use Rattle.isa.specs.declared.Instr.{Instr}
 use Rattle.isa.specs.declared.Instr.TheVariants as instr
-use Rattle.isa.specs.declared.Written.{Written}
-use Rattle.isa.specs.declared.Written.TheVariants.{Refused, Word}
 use Rattle.writing.specs.declared.Layout.{Layout}
 use Rattle.fields.specs.Fields.{pick, both, total, word_of, fits}
 use Rattle.ops.specs.Classes.{Class}
@@ -138,15 +136,15 @@ pub record Shaped (widths values : List ℕ) : Type 0 where
   pub whole : total widths ≡ 32
 
 -- the word, where each value fits its field
-abbrev pub packed : List ℕ → List ℕ → Written
-packed widths values = pick (fits widths values) (Word (word_of widths values)) Refused
+abbrev pub packed : List ℕ → List ℕ → Option ℕ
+packed widths values = pick (fits widths values) (Some (word_of widths values)) None
 
-abbrev pub sealed : Layout → Written
-sealed l = pick l.ok (packed l.widths l.values) Refused
+abbrev pub sealed : Layout → Option ℕ
+sealed l = pick l.ok (packed l.widths l.values) None
 
-unfoldable pub write_of : Instr → Written
+unfoldable pub write_of : Instr → Option ℕ
 write_of i = sealed (layout_of i)
 
 -- what writing an instruction promises: the answer says what the definition says
-pub record Writes (i : Instr) (r : Written) : Type 0 where
+pub record Writes (i : Instr) (r : Option ℕ) : Type 0 where
   pub said : written_said r ≡ written_said (write_of i)

@@ -9,7 +9,7 @@ ghost use Rattle.writing.specs.Writing.{Shaped};
 ghost use Rattle.writing.specs.Writing as writing;
 
 use crate::layouts::*;
-use isa::{Instr, Written};
+use isa::Instr;
 
 // An instruction's fields, the highest first, by width and value; ok where it has its format and index.
 #[derive(Clone, Copy)]
@@ -76,7 +76,7 @@ fn power(n: u32) -> u64
 }
 
 // The fields put together from the lowest up.
-fn packed(widths: &[u32], values: &[u32]) -> Written
+fn packed(widths: &[u32], values: &[u32]) -> Option<u32>
     requires { Shaped widths.now values.now }
     ensures { result ≡ writing.packed widths.now values.now }
 {
@@ -88,12 +88,12 @@ fn packed(widths: &[u32], values: &[u32]) -> Written
         let size = power(widths[i]);
         let value = wide(values[i]);
         if size <= value {
-            return Written::Refused;
+            return None;
         }
         word += value * scale;
         scale *= size;
     }
-    Written::Word(word as u32)
+    Some(word as u32)
 }
 
 fn wide(x: u32) -> u64
@@ -102,7 +102,7 @@ fn wide(x: u32) -> u64
     x as u64
 }
 
-fn seal(l: Layout) -> Written
+fn seal(l: Layout) -> Option<u32>
     requires { Shaped l.widths l.values }
     ensures { result ≡ writing.sealed l }
 {
@@ -112,11 +112,11 @@ fn seal(l: Layout) -> Written
     if ok {
         packed(&widths, &values)
     } else {
-        Written::Refused
+        None
     }
 }
 
-pub fn write_word(i: Instr) -> Written
+pub fn write_word(i: Instr) -> Option<u32>
     ensures { writing.Writes i result }
 {
     seal(layout_of(i))

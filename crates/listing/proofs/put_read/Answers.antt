@@ -2,8 +2,7 @@
 use Prim.Native.Nat.{ℕ}
 use Rattle.isa.specs.Numbers.{number_in, read_said}
 use Rattle.isa.specs.declared.Instr.{Instr}
-use Rattle.isa.specs.declared.Read.TheVariants as read
-use Rattle.isa.specs.declared.Read.{Read}
+use Rattle.std.specs.Prelude.{Ok, Err, Result}
 use Rattle.isa.specs.declared.Unread.{Unread}
 use Rattle.listing.specs.Listing as listing
 use Rattle.shown.specs.Shown.{shown_of}
@@ -15,10 +14,10 @@ use mathlib.Core.List.{◌++◌}
 use mathlib.Core.Path.{◌≡◌, sym}
 use Rattle.listing.proofs.put_read.Goals as goal
 
-reason : (r : Read) {u : Unread} {n : ℕ} → r ≡ read.Not u → n ≡ number_in (read_said r) → bytes "; " ++ decimal n ≡ listing.read_text r
+reason : (r : Result Instr Unread) {u : Unread} {n : ℕ} → r ≡ Err u → n ≡ number_in (read_said r) → bytes "; " ++ decimal n ≡ listing.read_text r
 reason r e h = rw (h, e)
 
-instruction : (r : Read) {i : Instr} {s : Shown} → r ≡ read.Instr i → s ≡ shown_of i → listing.shown_text s ≡ listing.read_text r
+instruction : (r : Result Instr Unread) {i : Instr} {s : Shown} → r ≡ Ok i → s ≡ shown_of i → listing.shown_text s ≡ listing.read_text r
 instruction r e h = rw (e, h)
 
 pub put_reason-requires : goal.put_reason-requires

@@ -6,7 +6,7 @@ use mathlib.Core.List.{List, []}
 use native.Mathlib.Omega.{arith}
 use lib.ListN.{drop, get_or, length}
 use lib.Seq.{drop-length}
-use Rattle.isa.specs.declared.Written.TheVariants.{Word}
+use Rattle.std.specs.Prelude.{Some}
 use Rattle.fields.specs.Fields.{fits}
 use Rattle.writing.specs.Writing.{Shaped, packed}
 use Rattle.fields.proofs.Fields.{width_fits, word-step, scale-step, scale-lt, fits-step, word_below, word_lt, refused}
@@ -65,7 +65,7 @@ module _ {ns vs : List ℕ} {i word scale : ℕ} (s : Shaped ns vs) (d : Done ns
   word_fits : word < 4294967296
   word_fits = rw at_zero.put (rw s.whole at (word_lt ns vs at_zero.fit))
 
-  answer : Word word ≡ packed ns vs
+  answer : Some word ≡ packed ns vs
   answer = rw (at_zero.fit, at_zero.put)
 
 pub returns-then-size-value : goal.returns-then-size-value

@@ -1,18 +1,34 @@
--- `state::setup::later` puts the calls' answers together.
-use Rattle.state.specs.Setup.{first}
-use Rattle.std.proofs.Common.{refl}
+-- `state::setup::later`: a row that is broken is the first, or the rest of the table answers.
+use Rattle.state.proofs.SetupLaws.{here, next, last}
+use Rattle.std.proofs.lemmas.Result.{err_from_is_err_and}
 use Rattle.state.proofs.setup.later.Goals as goal
 
+pub returns-in_err-unless : goal.returns-in_err-unless
+returns-in_err-unless c =
+    let p = err_from_is_err_and c.from_residual.result c.from_residual.ensures.1 in
+    rw (p.1, p.2, ← c.program_bad.ensures)
+    (here _ _ _ _ c.in_err-unless.ensures)
+
+pub returns-in_err-unless-2 : goal.returns-in_err-unless-2
+returns-in_err-unless-2 c =
+    let p = err_from_is_err_and c.from_residual-in_err-unless-2.result c.from_residual-in_err-unless-2.ensures.1 in
+    rw (p.1, p.2, ← c.program_bad.ensures, ← c.window_bad.ensures, ← c.window_bad-2.ensures)
+    (next _ _ _ _ c.in_ok-unless.ensures (here _ _ _ _ c.in_err-unless-2.ensures))
+
+pub returns-in_err-unless-3 : goal.returns-in_err-unless-3
+returns-in_err-unless-3 c =
+    let p = err_from_is_err_and c.from_residual-in_err-unless-3.result c.from_residual-in_err-unless-3.ensures.1 in
+    rw (p.1, p.2, ← c.program_bad.ensures, ← c.window_bad.ensures, ← c.window_bad-2.ensures, ← c.windows_share-shared.ensures)
+    (next _ _ _ _ c.in_ok-unless.ensures (next _ _ _ _ c.in_ok-unless-2.ensures (here _ _ _ _ c.in_err-unless-3.ensures)))
+
 pub returns : goal.returns
-unfolding first
 returns c =
-    let b1 = c in
-    let b2 = b1 in
-    let b3 = b2 in
-    let b4 = b3 in
-    let b5 = b4 in
-    let b6 = b5 in
-    let b7 = b6 in
-    let b8 = b7 in
-    let b9 = b8 in
-    rw (c.unless-2.ensures, b2.unless-windows.ensures, b3.unless.ensures, b7.unless-state.ensures, ← b1.program_bad.ensures, ← b5.window_bad.ensures, ← b4.window_bad-2.ensures, ← b6.windows_share-shared.ensures, ← b9.eight.ensures, ← b8.state_bad.ensures) refl
+    rw (
+      ← c.program_bad.ensures,
+      ← c.window_bad.ensures,
+      ← c.window_bad-2.ensures,
+      ← c.windows_share-shared.ensures,
+      ← c.eight.ensures,
+      ← c.state_bad.ensures,
+    )
+    (next _ _ _ _ c.in_ok-unless.ensures (next _ _ _ _ c.in_ok-unless-2.ensures (next _ _ _ _ c.in_ok-unless-3.ensures (last _ _ _ c.unless-4.ensures))))
