@@ -5,6 +5,7 @@ ghost use Rattle.fields.specs.Fields.{bits, both};
 ghost use Rattle.isa.specs.Widths.{width_code};
 ghost use Rattle.ops.specs.Formats as formats;
 ghost use Rattle.ops.specs.Packed.{formats_of};
+ghost use Rattle.reading.specs.Index as index;
 ghost use Rattle.reading.specs.Index.{element_index};
 ghost use Rattle.reading.specs.Reading as reading;
 ghost use Rattle.entries.specs.Entry.{entry_of};
@@ -82,15 +83,16 @@ pub fn two_of(f: u64, w: u32, df: Width, code: u64, flag: u64, imm: u64) -> u64
 }
 
 // Two registers, and the index that stands with the format: any, and that of ELM.
-pub fn indexed(f: u64, w: u32, x: Index, code: u64, flag: u64) -> u64
-    ensures { result ≡ cond (both x.ok (formats.has (formats_of f) x.df))
-        (entry.packed code (width_code x.df) flag (bits w 10 6) (bits w 15 11) 0 x.n)
+pub fn indexed(f: u64, w: u32, x: Option<Index>, code: u64, flag: u64) -> u64
+    ensures { (r : index.Index) → x ≡ index.told r
+        → result ≡ cond (both r.ok (formats.has (formats_of f) r.df))
+        (entry.packed code (width_code r.df) flag (bits w 10 6) (bits w 15 11) 0 r.n)
         (entry_of (reading.vacant w)) }
 {
-    let ok = x.ok;
-    let df = x.df;
-    let n = x.n;
-    given(w, ok & has(f, df), two(w, df, code, flag, n as u64))
+    let Some(Index { df, n }) = x else {
+        return vacant(w);
+    };
+    two_of(f, w, df, code, flag, n as u64)
 }
 
 pub fn element(f: u64, w: u32, code: u64, flag: u64) -> u64

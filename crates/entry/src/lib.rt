@@ -126,13 +126,11 @@ pub fn msa_run(
     let board = board_of(program_base, table_base, work_base, control);
     let c = block::control_of(control);
     let end = machine::run::run(board, program, table, vectors, generals, work, c, budget);
-    let reason = end.reason;
-    let after = end.control;
-    block::settle(0 < end.count, after, control);
+    block::settle(0 < end.count, end.control, control);
     MsaEnded {
-        reason: numbers::reason_number(reason) as u32,
+        reason: u8::from(end.reason) as u32,
         count: end.count,
-        missing: numbers::reason_missing(reason),
+        missing: numbers::reason_missing(end.reason),
     }
 }
 
@@ -156,10 +154,9 @@ pub fn msa_why(
     let board = board_of(program_base, table_base, work_base, control);
     let c = block::control_of(control);
     let y = machine::why::why(board, program, table, vectors, generals, work, c);
-    let answer = y.answer;
     MsaWhy {
-        number: numbers::answer_number(answer) as u16,
-        kind: numbers::answer_kind(answer) as u16,
+        number: numbers::answer_number(y.answer) as u16,
+        kind: numbers::answer_kind(y.answer) as u16,
         word: y.word,
         fact: y.fact,
     }

@@ -1,16 +1,10 @@
 -- What the C entry that keeps a list of read instructions answers and leaves: what `msa_run` does, and the list with
 -- the program's entries; or 51 where the list is too short, and then nothing is changed.
-use Rattle.std.specs.Prelude.{◌≡◌, Bool, true, false, cond, List, ℕ}
+use Rattle.std.specs.Prelude.{◌≡◌, true, false, List, ℕ}
 use Rattle.state.specs.Machine.{Machine}
-use Rattle.machine.specs.declared.run.Reason.{Reason}
-use Rattle.machine.specs.Numbers.{reason_number}
 use Rattle.entry.specs.declared.MsaEnded.{MsaEnded}
 use Rattle.entry.specs.Entry.{RunsTo}
 use Rattle.listed.specs.Run.{Listing}
-
--- the number of a run's reason, and 51 in its place where the list is too short
-abbrev pub read_number : Bool → Reason → ℕ
-read_number short r = cond short 51 (reason_number r)
 
 -- 51 for a call with the machine m and the block b: no instruction is finished, and the lent bytes are as they were
 pub record ShortIs (m : Machine) (r : MsaEnded) (v g w b b' : List ℕ) : Type 0 where

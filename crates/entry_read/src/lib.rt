@@ -7,21 +7,9 @@ ghost use Rattle.state.specs.Machine.{env, machine};
 ghost use Rattle.entry.specs.Block.{decoded, ordered};
 ghost use Rattle.entry.specs.Entry.{board};
 ghost use Rattle.listed.specs.Run.{listed_run};
-ghost use Rattle.entry_read.specs.Entry.{read_number, ReadsTo};
+ghost use Rattle.entry_read.specs.Entry.{ReadsTo};
 
 use entry::{MsaEnded, block, board_of, numbers};
-use machine::run::Reason;
-
-// The number of a run's reason, and 51 in its place where the list is too short.
-fn read_number(short: bool, reason: Reason) -> u32
-    ensures { result ≡ read_number short reason }
-{
-    if short {
-        51
-    } else {
-        numbers::reason_number(reason) as u32
-    }
-}
 
 // One run of at most budget instructions, each taken from the list, which is first filled from the program's words.
 pub fn msa_run_read(
@@ -47,16 +35,21 @@ pub fn msa_run_read(
 {
     let board = board_of(program_base, table_base, work_base, control);
     let c = block::control_of(control);
-    let x = listed::run::run(
+    let ran = listed::run::run(
         board, program, table, vectors, generals, work, c, list, budget,
     );
-    let end = x.ended;
-    let reason = end.reason;
-    let after = end.control;
-    block::settle(0 < end.count, after, control);
+    // 51 where the list is too short, and then nothing is changed
+    let Some(end) = ran else {
+        return MsaEnded {
+            reason: 51,
+            count: 0,
+            missing: 0,
+        };
+    };
+    block::settle(0 < end.count, end.control, control);
     MsaEnded {
-        reason: read_number(x.short, reason),
+        reason: u8::from(end.reason) as u32,
         count: end.count,
-        missing: numbers::reason_missing(reason),
+        missing: numbers::reason_missing(end.reason),
     }
 }

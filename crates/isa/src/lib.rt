@@ -5,24 +5,27 @@
 // its meaning is then said once.
 #![tactic(auto)]
 
+ghost use Rattle.std.specs.Prelude.{◌≡◌};
+ghost use Rattle.isa.specs.Numbers.{unread_number};
+
 pub mod widths;
 
 // The three register files, kept apart as the manual keeps wd, rs and cs apart.
-#[derive(Clone, Copy)]
+#[derive(Clone, Copy, Debug, PartialEq, Eq)]
 pub struct Vreg(pub u8);
 
-#[derive(Clone, Copy)]
+#[derive(Clone, Copy, Debug, PartialEq, Eq)]
 pub struct Greg(pub u8);
 
-#[derive(Clone, Copy)]
+#[derive(Clone, Copy, Debug, PartialEq, Eq)]
 pub struct Creg(pub u8);
 
 // An operation, by its place in the table of operations.
-#[derive(Clone, Copy)]
+#[derive(Clone, Copy, Debug, PartialEq, Eq)]
 pub struct Op(pub u16);
 
 // The data formats, Table 3.10.
-#[derive(Clone, Copy)]
+#[derive(Clone, Copy, Debug, PartialEq, Eq)]
 pub enum Width {
     B,
     H,
@@ -400,4 +403,16 @@ pub enum Unread {
     Unassigned,
     LeftOut,
     Other,
+}
+
+impl From<Unread> for u8 {
+    ghost from_gives = { λ u n. n ≡ unread_number u };
+
+    fn from(u: Unread) -> u8 {
+        match u {
+            Unread::Unassigned => 12,
+            Unread::LeftOut => 13,
+            Unread::Other => 14,
+        }
+    }
 }

@@ -26,8 +26,7 @@ fn early_at(k: u64, mark: Mark) -> Result<(), Stop>
 {
     match k / 2 {
         1 => Ok(()),
-        2 => branch_early(mark, false),
-        3 => branch_early(mark, false),
+        2 | 3 => branch_early(mark, false),
         _ => Err(Stop::SwitchedOff),
     }
 }
@@ -41,16 +40,13 @@ fn off(e: u64, generals: &mut [u8], c: Control) -> Stepped
     let Ok(k) = kept else {
         return stopped(kept_stop(kept), c);
     };
-    let mark = c.mark;
-    match early_at(k, mark) {
-        Err(s) => stopped(s, c),
-        Ok(()) => {
-            if k == 2 {
-                summed(Scaled::Lsa, e, generals, c)
-            } else {
-                summed(Scaled::Dlsa, e, generals, c)
-            }
-        }
+    if let Err(s) = early_at(k, c.mark) {
+        return stopped(s, c);
+    }
+    if k == 2 {
+        summed(Scaled::Lsa, e, generals, c)
+    } else {
+        summed(Scaled::Dlsa, e, generals, c)
     }
 }
 
@@ -69,8 +65,7 @@ pub fn turns_off(
         result v generals.new w }
 {
     let mut control = c;
-    let mut count: u32 = 0;
-    while count < budget {
+    for count in 0..budget {
         let at = place(board.program, control.pc);
         if words <= at {
             return Ended {
@@ -80,31 +75,18 @@ pub fn turns_off(
             };
         }
         let s = off(list[at as usize], generals, control);
-        let outcome = s.outcome;
-        match outcome {
-            Ok(()) => {
-                let next = s.control;
-                let mark = next.mark;
-                control = Control {
-                    pc: next.pc,
-                    mark,
-                    csr: next.csr,
-                    on: next.on,
-                };
-                count += 1;
-            }
-            Err(stop) => {
-                return Ended {
-                    reason: Reason::Stopped(stop),
-                    count,
-                    control,
-                };
-            }
+        if let Err(stop) = s.outcome {
+            return Ended {
+                reason: Reason::Stopped(stop),
+                count,
+                control,
+            };
         }
+        control = s.control;
     }
     Ended {
         reason: Reason::Spent,
-        count,
+        count: budget,
         control,
     }
 }

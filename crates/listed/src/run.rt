@@ -1,7 +1,7 @@
 // A run from a list: refused by the first broken limit, by 51 after them, or as the plain engine runs it.
 ghost use Rattle.std.specs.Prelude.{◌≡◌, length};
 ghost use Rattle.state.specs.Machine.{env, machine};
-ghost use Rattle.listed.specs.Run.{listed_run, accepted_run, short_of, ListedIs};
+ghost use Rattle.listed.specs.Run.{listed_run, accepted_run, ListedIs};
 ghost use Rattle.listed.specs.Turn.{Stands};
 
 use crate::off::turns_off;
@@ -12,28 +12,8 @@ use state::board::Board;
 use state::control::Control;
 use state::setup;
 
-// Whether the list is too short, and where it is not, how the run ended.
-#[derive(Clone, Copy)]
-pub struct Listed {
-    pub short: bool,
-    pub ended: Ended,
-}
-
-// 51: nothing is changed.
-fn too_short(c: Control) -> Listed
-    ensures { result ≡ short_of c }
-{
-    Listed {
-        short: true,
-        ended: Ended {
-            reason: Reason::Spent,
-            count: 0,
-            control: c,
-        },
-    }
-}
-
-// A run of a set-up that was accepted: 51, or every word is read, once, and the run is made.
+// A run of a set-up that was accepted: none where the list is too short, and then nothing is changed; or every word is
+// read, once, and the run is made.
 fn accepted(
     board: Board,
     program: &[u8],
@@ -44,7 +24,7 @@ fn accepted(
     c: Control,
     list: &mut [u64],
     budget: u32,
-) -> Listed
+) -> Option<Ended>
     requires { (length vectors.old ≡ 512) × (length generals.old ≡ 256)
         × Stands board.program program.now }
     ensures { ListedIs (accepted_run program.now (env board table.now) budget
@@ -53,7 +33,7 @@ fn accepted(
 {
     let words = program.len() / 4;
     if list.len() < words {
-        return too_short(c);
+        return None;
     }
     fill(program, list);
     let ended = if c.on {
@@ -71,13 +51,10 @@ fn accepted(
     } else {
         turns_off(board, list, words as u64, generals, c, budget)
     };
-    Listed {
-        short: false,
-        ended,
-    }
+    Some(ended)
 }
 
-// A run of at most budget instructions, from the list.
+// A run of at most budget instructions, from the list; none where the list is too short.
 pub fn run(
     board: Board,
     program: &[u8],
@@ -88,22 +65,19 @@ pub fn run(
     c: Control,
     list: &mut [u64],
     budget: u32,
-) -> Listed
+) -> Option<Ended>
     ensures { ListedIs (listed_run program.now (env board table.now) budget
         (machine vectors.old generals.old work.old c) list.old)
         result vectors.new generals.new work.new list.new }
 {
-    match setup::check(board, program, table, vectors, generals, work, c) {
-        Ok(()) => accepted(
-            board, program, table, vectors, generals, work, c, list, budget,
-        ),
-        Err(r) => Listed {
-            short: false,
-            ended: Ended {
-                reason: Reason::Refused(r),
-                count: 0,
-                control: c,
-            },
-        },
+    if let Err(r) = setup::check(board, program, table, vectors, generals, work, c) {
+        return Some(Ended {
+            reason: Reason::Refused(r),
+            count: 0,
+            control: c,
+        });
     }
+    accepted(
+        board, program, table, vectors, generals, work, c, list, budget,
+    )
 }

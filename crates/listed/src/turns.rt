@@ -34,8 +34,7 @@ pub fn turns(
         result vectors.new generals.new work.new }
 {
     let mut control = c;
-    let mut count: u32 = 0;
-    while count < budget {
+    for count in 0..budget {
         let at = place(board.program, control.pc);
         if words <= at {
             return Ended {
@@ -55,31 +54,18 @@ pub fn turns(
         } else {
             slow(e, board, vectors, generals, work, control)
         };
-        let outcome = s.outcome;
-        match outcome {
-            Ok(()) => {
-                let next = s.control;
-                let mark = next.mark;
-                control = Control {
-                    pc: next.pc,
-                    mark,
-                    csr: next.csr,
-                    on: next.on,
-                };
-                count += 1;
-            }
-            Err(stop) => {
-                return Ended {
-                    reason: Reason::Stopped(stop),
-                    count,
-                    control,
-                };
-            }
+        if let Err(stop) = s.outcome {
+            return Ended {
+                reason: Reason::Stopped(stop),
+                count,
+                control,
+            };
         }
+        control = s.control;
     }
     Ended {
         reason: Reason::Spent,
-        count,
+        count: budget,
         control,
     }
 }

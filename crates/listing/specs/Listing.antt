@@ -2,6 +2,7 @@
 use Rattle.std.specs.Prelude.{◌≡◌, List, [], ◌∷◌, ◌++◌, ℕ, ◌-◌, eqb, length, replicate, Result, Option, Ok, Err, Some, None}
 use Rattle.isa.specs.declared.Width.{Width}
 use Rattle.isa.specs.declared.Width.TheVariants.{B, H, W, D}
+use Rattle.isa.specs.declared.Instr.{Instr}
 use Rattle.isa.specs.declared.Unread.{Unread}
 use Rattle.shown.specs.declared.Form.{Form}
 use Rattle.shown.specs.declared.Form.TheVariants.{Bare, Each, Whole}
@@ -35,7 +36,7 @@ shown_text s = mnemonic s.name ++ form_text s.form ++ bytes " " ++ operands_text
 
 -- ---- a word
 
-abbrev pub read_text : Result Ok Unread → List ℕ
+abbrev pub read_text : Result Instr Unread → List ℕ
 read_text (Err u) = bytes "; " ++ decimal (unread_number u)
 read_text (Ok i) = shown_text (shown_of i)
 

@@ -2,7 +2,7 @@
 #![tactic(auto)]
 
 ghost use Rattle.std.specs.Prelude.{◌≡◌, ◌++◌};
-ghost use Rattle.isa.specs.Numbers.{number_in, read_said, unread_number};
+ghost use Rattle.isa.specs.Numbers.{number_in, read_said};
 ghost use Rattle.shown.specs.declared.Form.TheVariants as form;
 ghost use Rattle.text.specs.Text.{bytes, Room, Puts};
 ghost use Rattle.text.specs.Numerals.{decimal, hex};
@@ -75,18 +75,8 @@ fn read_number(r: Result<Instr, Unread>) -> u32
     ensures { result ≡ number_in (read_said r) }
 {
     match r {
-        Err(u) => unread_number(u),
+        Err(u) => u8::from(u) as u32,
         Ok(_) => 0,
-    }
-}
-
-fn unread_number(u: Unread) -> u32
-    ensures { result ≡ unread_number u }
-{
-    match u {
-        Unread::Unassigned => 12,
-        Unread::LeftOut => 13,
-        Unread::Other => 14,
     }
 }
 

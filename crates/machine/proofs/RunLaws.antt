@@ -1,6 +1,7 @@
 -- Laws of a run: what one more step adds, and how it ends.
 use Rattle.std.proofs.Common.{◌≡◌, ℕ, suc, ◌+◌, ◌-◌, ◌<◌, ◌≤◌, List, sym, refl, ap, ◌∙◌, add-zero, add_assoc, zero-add, arith}
 use Rattle.std.specs.Prelude.{Ok, Err, Some, None, Result, Option, ⊤}
+use Rattle.isa.specs.declared.Instr.{Instr}
 use Rattle.isa.specs.declared.Unread.{Unread}
 use Rattle.reading.specs.Reading.{read_of}
 use Rattle.plan.specs.declared.Plan.{Plan}
@@ -36,7 +37,7 @@ module _ (e : Env) (m : Machine) (s : Stop) where
   concluded-kept (plan.Csr x) h = clash h
   concluded-kept (plan.Branch k) h = clash h
 
-  decided-kept : (r : Result Ok Unread) → Kept (decided r e m)
+  decided-kept : (r : Result Instr Unread) → Kept (decided r e m)
   decided-kept (Err u) h = refl
   decided-kept (Ok i) h = concluded-kept (plan_of e m i) h
 

@@ -10,12 +10,8 @@ use Rattle.state.specs.declared.control.Control.{Control}
 use Rattle.state.specs.declared.stops.Stop.TheVariants.{NoWord}
 use Rattle.state.specs.Fetch.{fetched}
 
-abbrev pub end_as : Result ⊤ Stop → Result ⊤ Stop
-end_as (Ok tt) = Ok tt
-end_as (Err s) = Err s
-
 abbrev pub end_at : Option ℕ → Board → List ℕ → List ℕ → List ℕ → Control → Result ⊤ Stop
-end_at (Some x) b t g w c = end_as (stop_ahead (ahead_of (read_of x)) b (length t) g (length w) c)
+end_at (Some x) b t g w c = stop_ahead (ahead_of (read_of x)) b (length t) g (length w) c
 end_at None b t g w c = Err NoWord
 
 abbrev pub end_of : List ℕ → Board → List ℕ → List ℕ → List ℕ → Control → Result ⊤ Stop

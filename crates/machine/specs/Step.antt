@@ -2,8 +2,11 @@
 use Rattle.std.specs.Prelude.{◌≡◌, ℕ, List, Ok, Err, Some, None, Result, Option, ⊤}
 use Rattle.state.specs.declared.setup.Refusal.{Refusal}
 use Rattle.reading.specs.Reading.{read_of}
+use Rattle.isa.specs.declared.Instr.{Instr}
+use Rattle.isa.specs.declared.Unread.{Unread}
 use Rattle.plan.specs.declared.Plan.{Plan}
 use Rattle.plan.specs.declared.Plan.TheVariants as plan
+use Rattle.plan.specs.Ahead.{stop_in}
 use Rattle.plan.specs.Plan.{plan_of}
 use Rattle.state.specs.declared.control.Control.{Control}
 use Rattle.state.specs.declared.stops.Stop.{Stop}
@@ -28,19 +31,13 @@ abbrev pub stops : Stop → Machine → Ending
 stops s m = result (Err s) m
 
 abbrev pub outcome_of : Plan → Result ⊤ Stop
-outcome_of (plan.Stop s) = Err s
-outcome_of plan.Nothing = Ok tt
-outcome_of (plan.Vector r v) = Ok tt
-outcome_of (plan.General r x) = Ok tt
-outcome_of (plan.Store a v) = Ok tt
-outcome_of (plan.Csr x) = Ok tt
-outcome_of (plan.Branch k) = Ok tt
+outcome_of p = stop_in p
 
 abbrev pub concluded : ℕ → Plan → Machine → Ending
 concluded base p m = result (outcome_of p) (applied base p m)
 
 -- a word that reads as no instruction goes no further than 12 to 14
-abbrev pub decided : Result Ok Unread → Env → Machine → Ending
+abbrev pub decided : Result Instr Unread → Env → Machine → Ending
 decided (Err u) e m = stops (Unread u) m
 decided (Ok i) e m = concluded e.board.work (plan_of e m i) m
 
@@ -62,7 +59,7 @@ pub record StepIs (s : Ending) (r : Stepped) (v g w : List ℕ) : Type 0 where
 abbrev pub stopped_with : Stop → Control → Stepped
 stopped_with s c = record { outcome = Err s; control = c }
 
-abbrev pub unread_stop : Result Ok Unread → Stop
+abbrev pub unread_stop : Result Instr Unread → Stop
 unread_stop (Err u) = Unread u
 unread_stop (Ok i) = NoWord
 

@@ -1,6 +1,6 @@
 -- Why the next step would stop (request 6/12): how it would end, by the step itself, and behind a stop the word and the
 -- fact. The call is lent everything for reading, so there is nothing after it to say.
-use Rattle.std.specs.Prelude.{◌≡◌, ℕ, List, Ok, Err, Some, None, Result, Option, ⊤}
+use Rattle.std.specs.Prelude.{◌≡◌, ℕ, List, Ok, Err, Result, Option, unwrap_or, ⊤}
 use Rattle.state.specs.declared.setup.Refusal.{Refusal}
 use Rattle.state.specs.declared.stops.Stop.{Stop}
 use Rattle.state.specs.declared.stops.Stop.TheVariants as stop
@@ -13,8 +13,7 @@ use Rattle.machine.specs.Step.{step_of}
 
 -- the word at the counter, and 0 where there is none
 abbrev pub word_here : Option ℕ → ℕ
-word_here (Some w) = w
-word_here None = 0
+word_here f = unwrap_or f 0
 
 -- the word behind a stop, where the word w stands at the counter: of 11 there is none, 0
 abbrev pub stop_word : ℕ → Stop → ℕ

@@ -8,6 +8,7 @@ ghost use Rattle.machine.specs.Step.{concluded, decided, StepIs};
 use crate::effect;
 use crate::step::Stepped;
 use isa::Instr;
+use plan::ahead::stop_in;
 use plan::{Plan, planned};
 use state::board::Board;
 use state::control::Control;
@@ -29,7 +30,7 @@ pub fn conclude(
 {
     effect::apply(p, board.work, vectors, generals, work);
     Stepped {
-        outcome: effect::outcome_of(p),
+        outcome: stop_in(p),
         control: effect::control_after(p, c),
     }
 }

@@ -1,7 +1,7 @@
 // How the next step would end, from what its word says of stops. The step is not done: memory is lent for reading, and
 // of the windows their lengths are enough.
 ghost use Rattle.std.specs.Prelude.{◌≡◌, length};
-ghost use Rattle.machine.specs.Ahead.{end_as, end_of};
+ghost use Rattle.machine.specs.Ahead.{end_of};
 
 use plan::ahead::stop_ahead;
 use reading::ahead::ahead_of;
@@ -9,16 +9,6 @@ use state::board::Board;
 use state::control::Control;
 use state::fetch;
 use state::stops::Stop;
-
-// How a step ends that this stops, or that nothing does.
-fn end_as(e: Result<(), Stop>) -> Result<(), Stop>
-    ensures { result ≡ end_as e }
-{
-    match e {
-        Ok(()) => Ok(()),
-        Err(s) => Err(s),
-    }
-}
 
 // How the next step ends.
 pub fn end_of(
@@ -33,8 +23,6 @@ pub fn end_of(
     ensures { result ≡ end_of program.now board table.now generals.now
         work.now c }
 {
-    let Some(w) = fetch::word_at(program, board.program, c.pc) else {
-        return Err(Stop::NoWord);
-    };
-    end_as(stop_ahead(ahead_of(w), board, table.len(), generals, work.len(), c))
+    let w = fetch::word_at(program, board.program, c.pc).ok_or(Stop::NoWord)?;
+    stop_ahead(ahead_of(w), board, table.len(), generals, work.len(), c)
 }

@@ -11,14 +11,14 @@ use state::setup::Refusal;
 use state::stops::Stop;
 
 // How a step of an accepted set-up ends, finished or stopped, with the control block after it.
-#[derive(Clone, Copy)]
+#[derive(Clone, Copy, Debug, PartialEq, Eq)]
 pub struct Stepped {
     pub outcome: Result<(), Stop>,
     pub control: Control,
 }
 
 // How a step ends: refused at set-up, or as its outcome says; with the control block after it.
-#[derive(Clone, Copy)]
+#[derive(Clone, Copy, Debug, PartialEq, Eq)]
 pub struct Answered {
     pub answer: Result<Result<(), Stop>, Refusal>,
     pub control: Control,
@@ -28,11 +28,9 @@ pub struct Answered {
 fn ran(s: Stepped) -> Answered
     ensures { result ≡ ran_as s }
 {
-    let control = s.control;
-    let outcome = s.outcome;
     Answered {
-        answer: Ok(outcome),
-        control,
+        answer: Ok(s.outcome),
+        control: s.control,
     }
 }
 
@@ -48,14 +46,12 @@ pub fn step(
 ) -> Answered
     ensures { WholeIs (whole_step program.now (env board table.now) (machine vectors.old generals.old work.old c)) result vectors.new generals.new work.new }
 {
-    match setup::check(board, program, table, vectors, generals, work, c) {
-        Ok(()) => {
-            let e = turns(board, program, table, vectors, generals, work, c, 1);
-            ran(as_step(e))
-        }
-        Err(r) => Answered {
+    if let Err(r) = setup::check(board, program, table, vectors, generals, work, c) {
+        return Answered {
             answer: Err(r),
             control: c,
-        },
+        };
     }
+    let e = turns(board, program, table, vectors, generals, work, c, 1);
+    ran(as_step(e))
 }

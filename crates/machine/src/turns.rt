@@ -27,34 +27,20 @@ pub fn turns(
         result vectors.new generals.new work.new }
 {
     let mut control = c;
-    let mut count: u32 = 0;
-    while count < budget {
+    for count in 0..budget {
         let s = advance(board, program, table, vectors, generals, work, control);
-        let outcome = s.outcome;
-        match outcome {
-            Ok(()) => {
-                let next = s.control;
-                let mark = next.mark;
-                control = Control {
-                    pc: next.pc,
-                    mark,
-                    csr: next.csr,
-                    on: next.on,
-                };
-                count += 1;
-            }
-            Err(stop) => {
-                return Ended {
-                    reason: Reason::Stopped(stop),
-                    count,
-                    control,
-                };
-            }
+        if let Err(stop) = s.outcome {
+            return Ended {
+                reason: Reason::Stopped(stop),
+                count,
+                control,
+            };
         }
+        control = s.control;
     }
     Ended {
         reason: Reason::Spent,
-        count,
+        count: budget,
         control,
     }
 }
@@ -63,20 +49,12 @@ pub fn turns(
 pub fn as_step(e: Ended) -> Stepped
     ensures { result ≡ stepped_as e }
 {
-    let control = e.control;
-    let reason = e.reason;
-    match reason {
-        Reason::Refused(_) => Stepped {
-            outcome: Ok(()),
-            control,
-        },
-        Reason::Stopped(s) => Stepped {
-            outcome: Err(s),
-            control,
-        },
-        Reason::Spent => Stepped {
-            outcome: Ok(()),
-            control,
-        },
+    let outcome = match e.reason {
+        Reason::Stopped(s) => Err(s),
+        Reason::Refused(_) | Reason::Spent => Ok(()),
+    };
+    Stepped {
+        outcome,
+        control: e.control,
     }
 }

@@ -2,7 +2,7 @@
 // nothing can change. `ahead` says how it would end, and here the word at the counter and the fact are put beside that.
 ghost use Rattle.std.specs.Prelude.{◌≡◌, length};
 ghost use Rattle.state.specs.Machine.{env, machine};
-ghost use Rattle.machine.specs.Why.{word_here, stop_word, stop_fact, cause_of, next_of, why_of, WhyIs};
+ghost use Rattle.machine.specs.Why.{stop_word, stop_fact, cause_of, next_of, why_of, WhyIs};
 
 use crate::ahead::end_of;
 use state::board::Board;
@@ -12,21 +12,11 @@ use state::stops::Stop;
 use state::{fetch, setup};
 
 // How the step would end, and the word and the fact behind a stop: 0 where there is none.
-#[derive(Clone, Copy)]
+#[derive(Clone, Copy, Debug, PartialEq, Eq)]
 pub struct Cause {
     pub answer: Result<Result<(), Stop>, Refusal>,
     pub word: u32,
     pub fact: u64,
-}
-
-// The word that was fetched, 0 where there is none.
-fn word_here(f: Option<u32>) -> u32
-    ensures { result ≡ word_here f }
-{
-    match f {
-        Some(w) => w,
-        None => 0,
-    }
 }
 
 // The word behind a stop, where the word w stands at the counter.
@@ -35,12 +25,7 @@ fn word_of(s: Stop, w: u32) -> u32
 {
     match s {
         Stop::NoWord => 0,
-        Stop::Unread(_) => w,
-        Stop::BranchInSlot => w,
-        Stop::SwitchedOff => w,
-        Stop::NoWindow(_) => w,
-        Stop::ReadOnly(_) => w,
-        Stop::Trap(_) => w,
+        _ => w,
     }
 }
 
@@ -50,11 +35,9 @@ fn fact_of(s: Stop, pc: u64, w: u32) -> u64
 {
     match s {
         Stop::NoWord => pc,
-        Stop::Unread(_) => w as u64,
-        Stop::BranchInSlot => w as u64,
+        Stop::Unread(_) | Stop::BranchInSlot => w as u64,
         Stop::SwitchedOff => 0,
-        Stop::NoWindow(x) => x,
-        Stop::ReadOnly(x) => x,
+        Stop::NoWindow(x) | Stop::ReadOnly(x) => x,
         Stop::Trap(bits) => bits as u64,
     }
 }
@@ -91,7 +74,8 @@ fn next(
     ensures { result ≡ next_of program.now (env board table.now)
         (machine vectors.now generals.now work.now c) }
 {
-    let word = word_here(fetch::word_at(program, board.program, c.pc));
+    // 0 where no word stands there
+    let word = fetch::word_at(program, board.program, c.pc).unwrap_or(0);
     cause_of(end_of(board, program, table, generals, work, c), c.pc, word)
 }
 
@@ -108,12 +92,12 @@ pub fn why(
     ensures { WhyIs (why_of program.now (env board table.now)
         (machine vectors.now generals.now work.now c)) result }
 {
-    match setup::check(board, program, table, vectors, generals, work, c) {
-        Ok(()) => next(board, program, table, vectors, generals, work, c),
-        Err(r) => Cause {
+    if let Err(r) = setup::check(board, program, table, vectors, generals, work, c) {
+        return Cause {
             answer: Err(r),
             word: 0,
             fact: 0,
-        },
+        };
     }
+    next(board, program, table, vectors, generals, work, c)
 }

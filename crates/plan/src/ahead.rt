@@ -2,7 +2,6 @@
 ghost use Rattle.std.specs.Prelude.{◌≡◌, length};
 ghost use Rattle.state.specs.Windows.{spot_of};
 ghost use Rattle.plan.specs.Ahead.{stop_in, table_early, place_early, stop_ahead, Within};
-ghost use Rattle.plan.specs.Ahead as ahead;
 
 use crate::address::address;
 use crate::early::{branch_early, switched_early};
@@ -16,27 +15,12 @@ use state::stops::Stop;
 use state::windows::{Spot, locate};
 
 // The reason that a plan names, if any.
-fn stop_in(p: Plan) -> Result<(), Stop>
+pub fn stop_in(p: Plan) -> Result<(), Stop>
     ensures { result ≡ stop_in p }
 {
     match p {
         Plan::Stop(s) => Err(s),
-        Plan::Nothing => Ok(()),
-        Plan::Vector(_, _) => Ok(()),
-        Plan::General(_, _) => Ok(()),
-        Plan::Store(_, _) => Ok(()),
-        Plan::Csr(_) => Ok(()),
-        Plan::Branch(_) => Ok(()),
-    }
-}
-
-// Two reasons, if any: the first is told.
-fn first(e: Result<(), Stop>, later: Result<(), Stop>) -> Result<(), Stop>
-    ensures { result ≡ ahead.first e later }
-{
-    match e {
-        Ok(()) => later,
-        Err(s) => Err(s),
+        _ => Ok(()),
     }
 }
 
@@ -73,20 +57,19 @@ pub fn stop_ahead(
     requires { (length generals.now ≡ 256) × Within a }
     ensures { result ≡ stop_ahead a board table generals.now work c }
 {
-    let mark = c.mark;
     match a {
         Ahead::Not(u) => Err(Stop::Unread(u)),
         Ahead::Free => Ok(()),
-        Ahead::Branch => branch_early(mark, c.on),
+        Ahead::Branch => branch_early(c.mark, c.on),
         Ahead::Vector => switched_early(c.on),
         Ahead::Control(cd, rs) => {
-            let e = stop_in(moves::to_control(cd, moves::general(generals, rs)));
-            first(switched_early(c.on), e)
+            switched_early(c.on)?;
+            stop_in(moves::to_control(cd, moves::general(generals, rs)))
         }
         Ahead::Memory(o, df, offset, rs) => {
+            switched_early(c.on)?;
             let x = address(df, offset, moves::general(generals, rs));
-            let e = place_early(memory_at(o), board, table, work, x);
-            first(switched_early(c.on), e)
+            place_early(memory_at(o), board, table, work, x)
         }
     }
 }

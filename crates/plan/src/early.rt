@@ -21,7 +21,6 @@ pub fn branch_early(k: Mark, on: bool) -> Result<(), Stop>
 {
     match k {
         Mark::Clear => switched_early(on),
-        Mark::NotTaken => Err(Stop::BranchInSlot),
-        Mark::Taken(_) => Err(Stop::BranchInSlot),
+        Mark::NotTaken | Mark::Taken(_) => Err(Stop::BranchInSlot),
     }
 }

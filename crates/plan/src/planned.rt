@@ -172,8 +172,7 @@ pub fn plan_of(
     ensures { result ≡ plan_of (env board table.now)
         (machine vectors.now generals.now work.now c) i }
 {
-    let mark = c.mark;
-    match early_stop(kind_of(i), mark, c.on) {
+    match early_stop(kind_of(i), c.mark, c.on) {
         Ok(()) => execute(i, board, table, vectors, generals, work, c),
         Err(s) => Plan::Stop(s),
     }

@@ -8,8 +8,7 @@ use lib.Dec.{leb, ltb}
 use Rattle.isa.specs.declared.Width.{Width}
 use Rattle.fields.specs.Fields.{both}
 use Rattle.fields.proofs.Fields.{both_left, both_right}
-use Rattle.reading.specs.declared.index.Index.{Index}
-use Rattle.reading.specs.Index.{at, range}
+use Rattle.reading.specs.Index.{Index, at, range}
 
 module _ (df : Width) (base size x : ℕ) (rest : Index) where
   pub in-range : base ≤ x → x < base + size → range df base size x rest ≡ at df (x - base)

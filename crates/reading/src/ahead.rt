@@ -6,6 +6,7 @@ ghost use Rattle.ops.specs.Classes as class;
 ghost use Rattle.ops.specs.Formats as formats;
 ghost use Rattle.ops.specs.Packed.{class_of, formats_of};
 ghost use Rattle.reading.specs.Ahead.{ahead_of};
+ghost use Rattle.reading.specs.Index as index;
 ghost use Rattle.reading.specs.Index.{element_index};
 ghost use Rattle.reading.specs.Reading as reading;
 
@@ -48,12 +49,13 @@ fn has_df(f: u64, w: u32) -> bool
 }
 
 // The same of a format with an index in it.
-fn has_index(f: u64, x: Index) -> bool
-    ensures { result ≡ both x.ok (formats.has (formats_of f) x.df) }
+fn has_index(f: u64, x: Option<Index>) -> bool
+    ensures { (r : index.Index) → x ≡ index.told r → result ≡ both r.ok (formats.has (formats_of f) r.df) }
 {
-    let ok = x.ok;
-    let df = x.df;
-    ok & has(f, df)
+    match x {
+        Some(x) => has(f, x.df),
+        None => false,
+    }
 }
 
 fn has_element(f: u64, w: u32) -> bool

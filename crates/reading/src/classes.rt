@@ -5,7 +5,7 @@ ghost use Rattle.ops.specs.Packed.{formats_of};
 ghost use Rattle.reading.specs.Ahead.{no_instr};
 ghost use Rattle.reading.specs.Reading as reading;
 
-use crate::index::{bit_index, element_index};
+use crate::index::{Index, bit_index, element_index};
 use crate::operands::*;
 use isa::widths::width_at;
 use isa::*;
@@ -104,10 +104,9 @@ pub fn ldi(f: u64, k: u16, w: u32) -> Result<Instr, Unread>
 pub fn bit(f: u64, k: u16, w: u32) -> Result<Instr, Unread>
     ensures { result ≡ reading.read_class class.Bit (formats_of f) k w }
 {
-    let x = bit_index((w / 65536 % 128) as u8);
-    let ok = x.ok;
-    let df = x.df;
-    let n = x.n;
+    let Some(Index { df, n }) = bit_index((w / 65536 % 128) as u8) else {
+        return vacant(w);
+    };
     let i = Instr::Bit {
         op: Op(k),
         df,
@@ -115,7 +114,7 @@ pub fn bit(f: u64, k: u16, w: u32) -> Result<Instr, Unread>
         ws: vs(w),
         m: n,
     };
-    given(w, ok & has(f, df), i)
+    given(w, has(f, df), i)
 }
 
 pub fn imm_8(k: u16, w: u32) -> Result<Instr, Unread>
@@ -145,10 +144,9 @@ pub fn shf(f: u64, k: u16, w: u32) -> Result<Instr, Unread>
 pub fn element(f: u64, k: u16, w: u32) -> Result<Instr, Unread>
     ensures { result ≡ reading.read_class class.Element (formats_of f) k w }
 {
-    let x = element_index((w / 65536 % 64) as u8);
-    let ok = x.ok;
-    let df = x.df;
-    let n = x.n;
+    let Some(Index { df, n }) = element_index((w / 65536 % 64) as u8) else {
+        return vacant(w);
+    };
     let i = Instr::Element {
         op: Op(k),
         df,
@@ -156,32 +154,30 @@ pub fn element(f: u64, k: u16, w: u32) -> Result<Instr, Unread>
         ws: vs(w),
         n,
     };
-    given(w, ok & has(f, df), i)
+    given(w, has(f, df), i)
 }
 
 pub fn insve(f: u64, k: u16, w: u32) -> Result<Instr, Unread>
     ensures { result ≡ reading.read_class class.Insve (formats_of f) k w }
 {
-    let x = element_index((w / 65536 % 64) as u8);
-    let ok = x.ok;
-    let df = x.df;
-    let n = x.n;
+    let Some(Index { df, n }) = element_index((w / 65536 % 64) as u8) else {
+        return vacant(w);
+    };
     let i = Instr::Insve {
         df,
         wd: vd(w),
         n,
         ws: vs(w),
     };
-    given(w, ok & has(f, df), i)
+    given(w, has(f, df), i)
 }
 
 pub fn copied(f: u64, k: u16, w: u32) -> Result<Instr, Unread>
     ensures { result ≡ reading.read_class class.Copy (formats_of f) k w }
 {
-    let x = element_index((w / 65536 % 64) as u8);
-    let ok = x.ok;
-    let df = x.df;
-    let n = x.n;
+    let Some(Index { df, n }) = element_index((w / 65536 % 64) as u8) else {
+        return vacant(w);
+    };
     let i = Instr::Copy {
         op: Op(k),
         df,
@@ -189,23 +185,22 @@ pub fn copied(f: u64, k: u16, w: u32) -> Result<Instr, Unread>
         ws: vs(w),
         n,
     };
-    given(w, ok & has(f, df), i)
+    given(w, has(f, df), i)
 }
 
 pub fn insert(f: u64, k: u16, w: u32) -> Result<Instr, Unread>
     ensures { result ≡ reading.read_class class.Insert (formats_of f) k w }
 {
-    let x = element_index((w / 65536 % 64) as u8);
-    let ok = x.ok;
-    let df = x.df;
-    let n = x.n;
+    let Some(Index { df, n }) = element_index((w / 65536 % 64) as u8) else {
+        return vacant(w);
+    };
     let i = Instr::Insert {
         df,
         wd: vd(w),
         n,
         rs: gs(w),
     };
-    given(w, ok & has(f, df), i)
+    given(w, has(f, df), i)
 }
 
 pub fn move_v(w: u32) -> Result<Instr, Unread>

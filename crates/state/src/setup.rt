@@ -2,6 +2,7 @@
 ghost use Rattle.std.specs.Prelude.{◌≡◌, ◌+◌, ◌^◌, length, if◌then◌else◌, nat_lt, Ok, Err};
 ghost use Rattle.state.specs.Machine.{env, machine};
 ghost use Rattle.state.specs.Csr.{masked};
+ghost use Rattle.state.specs.Numbers.{refusal_number};
 ghost use Rattle.state.specs.Setup.{registers_bad, program_bad, window_bad, shares, target_bad, state_bad, later_limits, first, refusal, Checks};
 
 use crate::board::Board;
@@ -15,6 +16,20 @@ pub enum Refusal {
     WindowSize,
     SharedAddress,
     State,
+}
+
+impl From<Refusal> for u8 {
+    ghost from_gives = { λ r n. n ≡ refusal_number r };
+
+    fn from(r: Refusal) -> u8 {
+        match r {
+            Refusal::Registers => 1,
+            Refusal::Program => 2,
+            Refusal::WindowSize => 3,
+            Refusal::SharedAddress => 4,
+            Refusal::State => 5,
+        }
+    }
 }
 
 fn registers_bad(vectors: usize, generals: usize) -> bool

@@ -18,9 +18,8 @@ use Rattle.ops.specs.Classes.{Class}
 use Rattle.ops.specs.Classes as class
 use Rattle.ops.specs.Places as place
 use Rattle.ops.specs.Table.{class_at, formats_at, has_form}
-use Rattle.reading.specs.declared.index.Index.{Index}
 use Rattle.fields.specs.Fields.{both, bits, total}
-use Rattle.reading.specs.Index.{bit_index, element_index}
+use Rattle.reading.specs.Index.{Index, bit_index, element_index}
 use Rattle.reading.proofs.Ranges.{by-range}
 use Rattle.reading.specs.Reading as reading
 use Rattle.reading.specs.Reading.{Block, i8, minor, elm, elm62, vec, float, two, mi10, branch, special, shf}

@@ -109,11 +109,7 @@ fn seal(l: Layout) -> Option<u32>
     let ok = l.ok;
     let widths = l.widths;
     let values = l.values;
-    if ok {
-        packed(&widths, &values)
-    } else {
-        None
-    }
+    if ok { packed(&widths, &values) } else { None }
 }
 
 pub fn write_word(i: Instr) -> Option<u32>

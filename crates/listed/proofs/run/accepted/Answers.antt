@@ -6,7 +6,7 @@ use Rattle.listed.proofs.run.accepted.Goals as goal
 pub returns-then-list-words : goal.returns-then-list-words
 returns-then-list-words c =
     let a = c.args in
-    rw (lt-ltb (length a.list.now) (length a.program.now / 4) c.if-list-words.true, c.too_short.ensures)
+    rw (lt-ltb (length a.list.now) (length a.program.now / 4) c.if-list-words.true)
     (record {
       short = refl;
       ended = record {

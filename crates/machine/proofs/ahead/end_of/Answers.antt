@@ -9,7 +9,7 @@ returns-in_default c = rw (← fetched-is c.word_at.ensures, c.in_default.is)
 
 pub stop_ahead-requires : goal.stop_ahead-requires
 stop_ahead-requires c =
-    (search rules, rw c.ahead_of.ensures (read-within c.in-Word.w (search rules)))
+    (search rules, rw c.ahead_of.ensures (read-within _ (search rules)))
 
 pub returns : goal.returns
 returns c =

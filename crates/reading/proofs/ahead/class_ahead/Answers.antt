@@ -22,8 +22,8 @@ pub returns-in-5 : goal.returns-in-5
 returns-in-5 c = rw c.in-5.is (told-given _ _ c.has_df-in-5.ensures c.told-in-5.ensures)
 
 pub returns-in-6 : goal.returns-in-6
-returns-in-6 c = let ok = rw c.bit_index.ensures at c.has_index.ensures in
-    rw c.in-6.is (told-given _ _ ok c.told-in-6.ensures)
+returns-in-6 c =
+    rw c.in-6.is (told-given _ _ (c.has_index.ensures _ c.bit_index.ensures) c.told-in-6.ensures)
 
 pub returns-in-7 : goal.returns-in-7
 returns-in-7 c = rw c.in-7.is

@@ -1,10 +1,7 @@
 -- `reading::index::bit_index` meets its contract.
+use Rattle.std.proofs.Common.{refl}
+use Rattle.reading.specs.Index.{reserved}
 use Rattle.reading.proofs.index.bit_index.Goals as goal
 
 pub returns : goal.returns
-returns c = rw (
-  c.range-w.ensures,
-  c.range-h.ensures,
-  c.range-b.ensures,
-  c.reserved.ensures,
-) at c.range.ensures
+returns c = c.range.ensures _ (c.range-w.ensures _ (c.range-h.ensures _ (c.range-b.ensures reserved refl)))
