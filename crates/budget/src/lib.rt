@@ -35,12 +35,8 @@ fn word_forward(w: u32) -> bool
 fn all_forward(program: &[u8]) -> bool
     ensures { result ≡ forward_to program.now (words program.now) }
 {
-    let words = program.len() / 4;
-    let mut i: usize = 0;
-    while i < words {
-        if word_forward(memory::four(program, 4 * i)) {
-            i += 1;
-        } else {
+    for i in 0..program.len() / 4 {
+        if !word_forward(memory::four(program, 4 * i)) {
             return false;
         }
     }

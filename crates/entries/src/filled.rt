@@ -19,10 +19,7 @@ pub fn fill(program: &[u8], list: &mut [u64])
         ≡ listed program.now list.old (length program.now / 4) }
     ensures are_words { AreWords program.now (length program.now / 4) }
 {
-    let n = program.len() / 4;
-    let mut i = 0;
-    while i < n {
+    for i in 0..program.len() / 4 {
         list[i] = entry_at(program, i);
-        i += 1;
     }
 }

@@ -11,7 +11,9 @@ ghost use Rattle.writing.specs.Writing as writing;
 use crate::layouts::*;
 use isa::Instr;
 
-// An instruction's fields, the highest first, by width and value; ok where it has its format and index.
+// An instruction's fields, the highest first, by width and value; ok where it has its format and index. The widths are
+// those of a figure, one constant for all its layouts, so they stand apart from the values. ok stands beside both: so
+// each layout is one expression, and as an Option each would return early.
 #[derive(Clone, Copy)]
 pub struct Layout {
     pub ok: bool,
@@ -82,11 +84,9 @@ fn packed(widths: &[u32], values: &[u32]) -> Option<u32>
 {
     let mut word: u64 = 0;
     let mut scale: u64 = 1;
-    let mut i: usize = 7;
-    while 0 < i {
-        i -= 1;
+    for i in (0..7).rev() {
         let size = power(widths[i]);
-        let value = wide(values[i]);
+        let value = values[i] as u64;
         if size <= value {
             return None;
         }
@@ -96,20 +96,15 @@ fn packed(widths: &[u32], values: &[u32]) -> Option<u32>
     Some(word as u32)
 }
 
-fn wide(x: u32) -> u64
-    ensures { result ≡ x }
-{
-    x as u64
-}
-
 fn seal(l: Layout) -> Option<u32>
     requires { Shaped l.widths l.values }
     ensures { result ≡ writing.sealed l }
 {
-    let ok = l.ok;
-    let widths = l.widths;
-    let values = l.values;
-    if ok { packed(&widths, &values) } else { None }
+    if l.ok {
+        packed(&l.widths, &l.values)
+    } else {
+        None
+    }
 }
 
 pub fn write_word(i: Instr) -> Option<u32>

@@ -16,15 +16,15 @@ unfolding budget_of
 returns-in_default c = rw (sym c.program_bad.ensures ∙ c.if-program_bad.false, ← fetched-is c.word_at.ensures, c.in_default.is)
 
 pub overflow_sub-counter : goal.overflow_sub-counter
-overflow_sub-counter c = (fetched-inside _ _ _ (sym (fetched-is c.word_at.ensures) ∙ c.in-Word.is)).0
+overflow_sub-counter c = (fetched-inside _ _ _ (sym (fetched-is c.word_at.ensures) ∙ c.in-Some.is)).0
 
 pub from_word-requires : goal.from_word-requires
 from_word-requires c =
     let a = c.args in
-    let inside = fetched-inside _ _ _ (sym (fetched-is c.word_at.ensures) ∙ c.in-Word.is) in
+    let inside = fetched-inside _ _ _ (sym (fetched-is c.word_at.ensures) ∙ c.in-Some.is) in
     (inside.1, program-small a.base (length a.program.now) (sym c.program_bad.ensures ∙ c.if-program_bad.false))
 
 pub returns : goal.returns
 unfolding budget_of
 returns c =
-    rw (sym c.program_bad.ensures ∙ c.if-program_bad.false, ← fetched-is c.word_at.ensures, c.in-Word.is) c.from_word.ensures
+    rw (sym c.program_bad.ensures ∙ c.if-program_bad.false, ← fetched-is c.word_at.ensures, c.in-Some.is) c.from_word.ensures

@@ -27,7 +27,7 @@ pub returns-in_default : goal.returns-in_default
 returns-in_default c = puts-as (reason c.args.read c.in_default.is c.read_number.ensures) c.put_reason.ensures
 
 pub put_shown-requires : goal.put_shown-requires
-put_shown-requires c = room_as (sym (instruction c.args.read c.in-Instr.is c.shown_of.ensures)) c.requires
+put_shown-requires c = room_as (sym (instruction c.args.read c.in-Ok.is c.shown_of.ensures)) c.requires
 
 pub returns : goal.returns
-returns c = puts-as (instruction c.args.read c.in-Instr.is c.shown_of.ensures) c.put_shown.ensures
+returns c = puts-as (instruction c.args.read c.in-Ok.is c.shown_of.ensures) c.put_shown.ensures

@@ -54,8 +54,8 @@ module _ {ns vs : List ℕ} {i word scale : ℕ} (s : Shaped ns vs) (d : Done ns
           }
 
 -- at the end of a turn
-turn_small : (c : goal.Else-size-value) → c.loop-i.word + c.wide-value.result * c.loop-i.scale < 4294967296
-turn_small c = word_small c.requires c.loop-i.invariant c.loop-i-test.true c.power-size.ensures c.wide-value.ensures c.if-size-value.false
+turn_small : (c : goal.Else-size-value) → c.loop-i.word + c.value * c.loop-i.scale < 4294967296
+turn_small c = word_small c.requires c.loop-i.invariant c.loop-i-test.true c.power-size.ensures refl c.if-size-value.false
 
 -- at the end of the loop
 module _ {ns vs : List ℕ} {i word scale : ℕ} (s : Shaped ns vs) (d : Done ns vs i word scale) (none : i ≤ 0) where
@@ -70,14 +70,14 @@ module _ {ns vs : List ℕ} {i word scale : ℕ} (s : Shaped ns vs) (d : Done ns
 
 pub returns-then-size-value : goal.returns-then-size-value
 returns-then-size-value c =
-    rw (not-fits c.requires c.loop-i.invariant c.loop-i-test.true c.power-size.ensures c.wide-value.ensures c.if-size-value.true)
+    rw (not-fits c.requires c.loop-i.invariant c.loop-i-test.true c.power-size.ensures refl c.if-size-value.true)
 
 pub overflow_mul-scale : goal.overflow_mul-scale
 overflow_mul-scale c =
-    omega (arith, scale_small c.requires c.loop-i.invariant c.loop-i-test.true c.power-size.ensures c.wide-value.ensures)
+    omega (arith, scale_small c.requires c.loop-i.invariant c.loop-i-test.true c.power-size.ensures refl)
 
 pub loop-i-preserved : goal.loop-i-preserved
-loop-i-preserved c = again c.requires c.loop-i.invariant c.loop-i-test.true c.power-size.ensures c.wide-value.ensures c.if-size-value.false
+loop-i-preserved c = again c.requires c.loop-i.invariant c.loop-i-test.true c.power-size.ensures refl c.if-size-value.false
 
 pub overflow_cast-result : goal.overflow_cast-result
 overflow_cast-result c = omega (arith, word_fits c.requires c.loop-i.invariant c.loop-i-test.false)

@@ -15,6 +15,3 @@ pub record Done (ns vs : List ℕ) (i word scale : ℕ) : Type 0 where
 
 abbrev pub invariant-loop-i : goal.invariant-loop-i
 invariant-loop-i l = Done l.widths l.values l.i l.word l.scale
-
-abbrev pub decreases-loop-i : goal.decreases-loop-i
-decreases-loop-i l = l.i

@@ -17,18 +17,18 @@ returns-in_default c n v w =
     (stopped-is _ m _ (c.stopped.ensures ∙ ap (λ s. stopped_with s a.c)
     (c.kept_stop.ensures ∙ ap kept_stop told)))
 
-pub returns-in-Stops : goal.returns-in-Stops
-returns-in-Stops c n v w =
+pub returns-in-Err : goal.returns-in-Err
+returns-in-Err c n v w =
     let a = c.args in
     let m = machine v a.generals.now w a.c in
     let is = sym c.kept_as-kept.ensures ∙
-    c.in-Code.is in
+    c.in-Ok.is in
     rw (
       plan-off n m a.e is c.requires.1,
       ← c.early_at.ensures,
-      c.in-Stops.is,
+      c.in-Err.is,
     )
-    (stopped-is _ m _ c.stopped-in-Stops.ensures)
+    (stopped-is _ m _ c.stopped-in-Err.ensures)
 
 pub returns-then-k-eq2 : goal.returns-then-k-eq2
 returns-then-k-eq2 c n v w =
@@ -36,7 +36,7 @@ returns-then-k-eq2 c n v w =
     let m = machine v a.generals.now w a.c in
     let is = sym
     c.kept_as-kept.ensures ∙
-    c.in-Code.is in
+    c.in-Ok.is in
     rw (sum-off n m a.e is c.requires.1 Lsa c.if-k-eq2.true)
     (c.summed.ensures n.board.work v w)
 
@@ -46,9 +46,9 @@ returns-else-k-eq2 c n v w =
     let m = machine v a.generals.now w a.c in
     let is = sym
     c.kept_as-kept.ensures ∙
-    c.in-Code.is in
+    c.in-Ok.is in
     let go = sym c.early_at.ensures ∙
-    c.in-Go.is in
+    c.in_default-early_at.is in
     rw (sum-off n m a.e is c.requires.1 Dlsa (third-code _ a.c.mark go
     c.if-k-eq2.false))
     (c.summed-else-k-eq2.ensures n.board.work v w)

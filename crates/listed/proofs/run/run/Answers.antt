@@ -13,7 +13,7 @@ accepted-requires c =
     let e = env a.board a.table.now in
     let m = machine a.vectors.now a.generals.now a.work.now a.c in
     let is = sym (setup-is c.check.ensures) ∙
-    c.in-Accepted.is in
+    c.in_default.is in
     let sized = setup.accepted a.program.now e m is in (
       sized.vectors,
       sized.generals,
@@ -21,16 +21,16 @@ accepted-requires c =
           (program-accepted a.program.now e m is),
     )
 
-pub returns-in-Accepted : goal.returns-in-Accepted
-returns-in-Accepted c = rw (
+pub returns : goal.returns
+returns c = rw (
   ← setup-is
       c.check.ensures,
-  c.in-Accepted.is,
+  c.in_default.is,
 ) c.accepted.ensures
 
-pub returns-in-Refused : goal.returns-in-Refused
-returns-in-Refused c =
-    rw (← setup-is c.check.ensures, c.in-Refused.is)
+pub returns-in-Err : goal.returns-in-Err
+returns-in-Err c =
+    rw (← setup-is c.check.ensures, c.in-Err.is)
     (record {
       short = refl;
       ended = record {

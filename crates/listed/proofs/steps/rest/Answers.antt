@@ -30,7 +30,7 @@ returns c t =
     let m = machine a.vectors.now a.generals.now a.work.now a.c in
     let is = sym
     c.kept_as-k.ensures ∙
-    c.in-Code.is in
+    c.in-Ok.is in
     rw (
       plan-move (env a.board t) m a.e is c.requires.2 c.requires.3,
       ← c.moved-p.ensures

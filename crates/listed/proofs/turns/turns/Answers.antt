@@ -16,7 +16,7 @@ use Rattle.listed.proofs.turns.turns.Goals as goal
 pub loop-count-init : goal.loop-count-init
 loop-count-init c =
     let a = c.args in (
-      search rules,
+
       search rules,
       search rules,
       refl,
@@ -34,7 +34,7 @@ returns-then-words-at c p h =
     let whole = runs p e a.budget (machine a.vectors.now a.generals.now a.work.now a.c) in
     let none = step-none p e m (c.place-at.ensures.none p h.stands (rw (← h.all) c.if-words-at.true)) in
     let t = stopped_with stop.NoWord l.control in
-    sofar-stopped p e a.budget l.count m whole (l.invariant.5 p h) c.loop-count-test.true stop.NoWord t
+    sofar-stopped p e a.budget l.count m whole (l.invariant.4 p h) c.loop-count-test.true stop.NoWord t
     l.vectors l.generals l.work (rw none (stopped-is stop.NoWord m t refl)) refl
 
 pub common-requires : goal.common-requires
@@ -42,7 +42,7 @@ common-requires c = (
   search rules,
   search rules,
   omega (arith, c.code_of-k.ensures.0, c.if-k-lt8.true),
-  c.loop-count.invariant.4,
+  c.loop-count.invariant.3,
 )
 
 pub quick-requires : goal.quick-requires
@@ -51,7 +51,7 @@ quick-requires c =
       search rules,
       omega (arith, k, c.if-k-lt8.false),
       omega (arith, k, c.if-k-lt56.true),
-      c.loop-count.invariant.4,
+      c.loop-count.invariant.3,
     )
 
 pub slow-s-requires : goal.slow-s-requires
@@ -59,7 +59,7 @@ slow-s-requires c = (
   search rules,
   search rules,
   omega (arith, c.code_of-k.ensures.0, c.if-k-lt56.false),
-  c.loop-count.invariant.4,
+  c.loop-count.invariant.3,
 )
 
 pub loop-count-preserved : goal.loop-count-preserved
@@ -89,18 +89,18 @@ loop-count-preserved c =
     in
     rw from done
     in (
-      search rules,
-      j.auto.vectors ∙ l.invariant.1,
-      j.auto.generals ∙ l.invariant.2,
-      j.auto.work ∙ l.invariant.3,
-      stays a.board.work (plan_at e m x) m done.control ∙ l.invariant.4,
-      λ p h. sofar-more p e a.budget l.count m (whole p) (l.invariant.5 p h)
+
+      j.auto.vectors ∙ l.invariant.0,
+      j.auto.generals ∙ l.invariant.1,
+      j.auto.work ∙ l.invariant.2,
+      stays a.board.work (plan_at e m x) m done.control ∙ l.invariant.3,
+      λ p h. sofar-more p e a.budget l.count m (whole p) (l.invariant.4 p h)
           c.loop-count-test.true _ _ _ _ (step p h)
-          c.in-Finished.is,
+          c.in_default.is,
     )
 
-pub returns-in-Stopped : goal.returns-in-Stopped
-returns-in-Stopped c p h =
+pub returns-in-Err : goal.returns-in-Err
+returns-in-Err c p h =
     let j = c.if-k-lt56 in
     let a = c.args in
     let l = c.loop-count in
@@ -126,9 +126,9 @@ returns-in-Stopped c p h =
     in
     rw from done
     in
-    sofar-stopped p e a.budget l.count m (whole p) (l.invariant.5 p h)
+    sofar-stopped p e a.budget l.count m (whole p) (l.invariant.4 p h)
     c.loop-count-test.true _ _ _ _ _ (step p h)
-    c.in-Stopped.is
+    c.in-Err.is
 
 pub returns : goal.returns
 returns c p h =
@@ -137,4 +137,4 @@ returns c p h =
     let e = env a.board a.table.now in
     let m = machine l.vectors l.generals l.work l.control in
     let whole = runs p e a.budget (machine a.vectors.now a.generals.now a.work.now a.c) in
-    sofar-spent p e a.budget l.count m whole (l.invariant.5 p h) c.loop-count-test.false
+    sofar-spent p e a.budget l.count m whole (l.invariant.4 p h) c.loop-count-test.false

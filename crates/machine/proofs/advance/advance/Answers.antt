@@ -23,7 +23,7 @@ returns-in_default-reading c =
     let at = word.args.c in
     rw (
       ← fetched-is word.word_at.ensures,
-      word.in-Word.is,
+      word.in-Some.is,
       ← read_is read.read_word-reading.ensures,
       told,
     )
@@ -33,8 +33,8 @@ pub act-requires : goal.act-requires
 act-requires c =
     let told = c in
     let read = told in
-    let f = read-formed read.in-Word.w _ (search rules)
-    (sym (read_is read.read_word-reading.ensures) ∙ told.in-Instr.is)
+    let f = read-formed read.in-Some.w _ (search rules)
+    (sym (read_is read.read_word-reading.ensures) ∙ told.in-Ok.is)
     in
     search rules
 
@@ -46,8 +46,8 @@ returns c =
     let word = told in
     rw (
       ← fetched-is word.word_at.ensures,
-      word.in-Word.is,
+      word.in-Some.is,
       ← read_is told.read_word-reading.ensures,
-      told.in-Instr.is,
+      told.in-Ok.is,
     )
     acted.act.ensures

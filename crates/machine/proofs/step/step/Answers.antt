@@ -10,17 +10,17 @@ use Rattle.machine.proofs.step.step.Goals as goal
 pub turns-e-requires : goal.turns-e-requires
 turns-e-requires c =
     let a = c.args in
-    let sized = accepted a.program.now (env a.board a.table.now) (machine a.vectors.now a.generals.now a.work.now a.c) (sym (setup-is c.check.ensures) ∙ c.in-Accepted.is) in
+    let sized = accepted a.program.now (env a.board a.table.now) (machine a.vectors.now a.generals.now a.work.now a.c) (sym (setup-is c.check.ensures) ∙ c.in_default.is) in
     (sized.vectors, sized.generals)
 
-pub returns-in-Accepted : goal.returns-in-Accepted
-returns-in-Accepted c =
+pub returns : goal.returns
+returns c =
     let told = c in
     let done = one-step _ _ _ _ _ _ _ c.turns-e.ensures in
-    rw (← setup-is told.check.ensures, told.in-Accepted.is)
+    rw (← setup-is told.check.ensures, told.in_default.is)
     (ran-is _ _ _ _ _ _ (rw c.as_step.ensures done) c.ran.ensures)
 
-pub returns-in-Refused : goal.returns-in-Refused
-returns-in-Refused c =
-    rw (← setup-is c.check.ensures, c.in-Refused.is)
+pub returns-in-Err : goal.returns-in-Err
+returns-in-Err c =
+    rw (← setup-is c.check.ensures, c.in-Err.is)
     (record { answer = refl; carried = refl; control = refl; vec = refl; gen = refl; work = refl })

@@ -8,7 +8,7 @@ use Rattle.machine.proofs.turns.turns.Goals as goal
 pub loop-count-init : goal.loop-count-init
 loop-count-init c =
     let a = c.args in
-    (search rules, search rules, search rules, refl, sofar-none a.program.now (env a.board a.table.now) a.budget (machine a.vectors.now a.generals.now a.work.now a.c))
+    (search rules, search rules, refl, sofar-none a.program.now (env a.board a.table.now) a.budget (machine a.vectors.now a.generals.now a.work.now a.c))
 
 pub loop-count-preserved : goal.loop-count-preserved
 loop-count-preserved c =
@@ -17,16 +17,16 @@ loop-count-preserved c =
     let e = env a.board a.table.now in
     let m = machine l.vectors l.generals l.work l.control in
     let whole = runs a.program.now e a.budget (machine a.vectors.now a.generals.now a.work.now a.c) in
-    (search rules, search rules, search rules, search rules, sofar-more a.program.now e a.budget l.count m whole l.invariant.4 c.loop-count-test.true _ _ _ _ c.advance-s.ensures c.in-Finished.is)
+    (search rules, search rules, search rules, sofar-more a.program.now e a.budget l.count m whole l.invariant.3 c.loop-count-test.true _ _ _ _ c.advance-s.ensures c.in_default.is)
 
-pub returns-in-Stopped : goal.returns-in-Stopped
-returns-in-Stopped c =
+pub returns-in-Err : goal.returns-in-Err
+returns-in-Err c =
     let a = c.args in
     let l = c.loop-count in
     let e = env a.board a.table.now in
     let m = machine l.vectors l.generals l.work l.control in
     let whole = runs a.program.now e a.budget (machine a.vectors.now a.generals.now a.work.now a.c) in
-    sofar-stopped a.program.now e a.budget l.count m whole l.invariant.4 c.loop-count-test.true _ _ _ _ _ c.advance-s.ensures c.in-Stopped.is
+    sofar-stopped a.program.now e a.budget l.count m whole l.invariant.3 c.loop-count-test.true _ _ _ _ _ c.advance-s.ensures c.in-Err.is
 
 pub returns : goal.returns
 returns c =
@@ -35,4 +35,4 @@ returns c =
     let e = env a.board a.table.now in
     let m = machine l.vectors l.generals l.work l.control in
     let whole = runs a.program.now e a.budget (machine a.vectors.now a.generals.now a.work.now a.c) in
-    sofar-spent a.program.now e a.budget l.count m whole l.invariant.4 c.loop-count-test.false
+    sofar-spent a.program.now e a.budget l.count m whole l.invariant.3 c.loop-count-test.false

@@ -14,6 +14,6 @@ returns c =
       step-ends a.board a.table.now a.vectors.now a.generals.now a.work.now a.c a.program.now,
       ← ends.end_of.ensures,
       ← fetched-is word.word_at.ensures,
-      ← ends.word_here-word.ensures,
+      ← ends.unwrap_or-word.ensures,
     )
     c.cause_of.ensures

@@ -11,14 +11,14 @@ next-requires c =
     let a = c.args in
     let sized = accepted a.program.now (env a.board a.table.now)
     (machine a.vectors.now a.generals.now a.work.now a.c)
-    (sym (setup-is c.check.ensures) ∙ c.in-Accepted.is)
+    (sym (setup-is c.check.ensures) ∙ c.in_default.is)
     in
     sized.generals
 
-pub returns-in-Accepted : goal.returns-in-Accepted
-returns-in-Accepted c =
-    rw (← setup-is c.check.ensures, c.in-Accepted.is)
+pub returns : goal.returns
+returns c =
+    rw (← setup-is c.check.ensures, c.in_default.is)
     (meets c.next.ensures)
 
-pub returns-in-Refused : goal.returns-in-Refused
-returns-in-Refused c = rw (← setup-is c.check.ensures, c.in-Refused.is) (meets refl)
+pub returns-in-Err : goal.returns-in-Err
+returns-in-Err c = rw (← setup-is c.check.ensures, c.in-Err.is) (meets refl)

@@ -2,21 +2,21 @@
 use Rattle.plan.specs.Plan.{plan_of}
 use Rattle.plan.proofs.planned.plan_of.Goals as goal
 
-pub returns-in-Go : goal.returns-in-Go
+pub returns-in-Ok : goal.returns-in-Ok
 unfolding plan_of
-returns-in-Go c =
+returns-in-Ok c =
     rw (
       ← c.kind_of.ensures,
       ← c.early_stop.ensures,
-      c.in-Go.is,
+      c.in-Ok.is,
     )
     c.execute.ensures
 
-pub returns-in-Stops : goal.returns-in-Stops
+pub returns-in-Err : goal.returns-in-Err
 unfolding plan_of
-returns-in-Stops c =
+returns-in-Err c =
     rw (
       ← c.kind_of.ensures,
       ← c.early_stop.ensures,
-      c.in-Stops.is,
+      c.in-Err.is,
     )
