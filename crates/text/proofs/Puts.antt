@@ -1,11 +1,12 @@
 -- Texts put one after the other are one text put, and room for both is room for each. Assumes nothing.
-use mathlib.Core.Path.{◌≡◌, refl, sym, ap, ◌∙◌, subst}
-use mathlib.Core.List.{List, [], ◌∷◌, ◌++◌, append-nil}
+use mathlib.Core.Path.{◌≡◌, refl, sym, ap, ap₂, ◌∙◌, subst}
+use mathlib.Core.List.{List, [], ◌∷◌, ◌++◌, append-nil, append_assoc}
 use Prim.Native.Nat.{ℕ, suc, ◌+◌}
 use native.Mathlib.Nat.{add-zero, zero-add, add-suc, suc-add, add_assoc}
 use native.Mathlib.Omega.{arith}
-use lib.ListN.{length, drop, length-append}
-use lib.Seq.{sets, length-sets, sets-eq, drop-length}
+use borrow.Rule.Slice.PartMut.{put_mid}
+use lib.ListN.{length, take, drop, length-append}
+use lib.Seq.{sets, length-sets, sets-eq, drop-drop, drop-length}
 use Rattle.text.specs.Text.{Room, Puts}
 
 sets-append : (l : List ℕ) (k : ℕ) (s t : List ℕ) → sets l k (s ++ t) ≡ sets (sets l k s) (k + length s) t
@@ -14,6 +15,18 @@ sets-append l k (x ∷ s) t = sets-append _ (suc k) s t ∙ ap (λ (n : ℕ). se
 
 pub puts_none : (l : List ℕ) (k : ℕ) → Puts l k [] l k
 puts_none l k = record { place = sym (add-zero k); line = refl }
+
+-- a text copied into its part of the line
+pub puts_part : (l : List ℕ) (at : ℕ) {k : ℕ} {s t : List ℕ} → s ≡ t → k ≡ length t → Room l at t
+    → Puts l at t (put_mid at k l s) (at + length t)
+puts_part l at {t = t} e n room = record {
+  place = refl;
+  line =
+      ap₂ (λ k s. take at l ++ (s ++ drop k (drop at l))) n e
+      ∙ ap (λ r. take at l ++ (t ++ r)) (drop-drop (length t) at l)
+      ∙ sym (append_assoc (take at l) t (drop (at + length t) l))
+      ∙ sym (sets-eq t l at room.fits);
+}
 
 pub puts-as : {l m s t : List ℕ} {k p : ℕ} → s ≡ t → Puts l k s m p → Puts l k t m p
 puts-as {l} {m} {s} {t} {k} {p} e h = subst (λ (x : List ℕ). Puts l k x m p) e h
