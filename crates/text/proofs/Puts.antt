@@ -37,6 +37,10 @@ puts_then {l} {m} {n} {s} {t} {k} {p} {q} f g = record {
   line = g.line ∙ ap (λ (x : List ℕ). sets x p t) f.line ∙ ap (λ (x : ℕ). sets (sets l k s) x t) f.place ∙ sym (sets-append l k s t);
 }
 
+pub puts_four : {l m₁ m₂ m₃ n s t u v : List ℕ} {k p₁ p₂ p₃ q : ℕ} → Puts l k s m₁ p₁ → Puts m₁ p₁ t m₂ p₂ → Puts m₂ p₂ u m₃ p₃ → Puts m₃ p₃ v n q
+    → Puts l k (s ++ t ++ u ++ v) n q
+puts_four f g h i = puts_then (puts_then (puts_then f g) h) i
+
 pub kept : {l m s : List ℕ} {k p : ℕ} → Puts l k s m p → length m ≡ length l
 kept {l} {m} {s} {k} f = ap length f.line ∙ length-sets l k s
 
