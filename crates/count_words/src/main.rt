@@ -25,22 +25,16 @@ fn more(n: u64) -> u64 {
 fn refused(c: Counts, u: Unread) -> Counts {
     match u {
         Unread::Unassigned => Counts {
-            read: c.read,
-            left_out: c.left_out,
             unassigned: more(c.unassigned),
-            other: c.other,
+            ..c
         },
         Unread::LeftOut => Counts {
-            read: c.read,
             left_out: more(c.left_out),
-            unassigned: c.unassigned,
-            other: c.other,
+            ..c
         },
         Unread::Other => Counts {
-            read: c.read,
-            left_out: c.left_out,
-            unassigned: c.unassigned,
             other: more(c.other),
+            ..c
         },
     }
 }
@@ -50,16 +44,13 @@ fn counted(c: Counts, r: Result<Instr, Unread>) -> Counts {
         Err(u) => refused(c, u),
         Ok(_) => Counts {
             read: more(c.read),
-            left_out: c.left_out,
-            unassigned: c.unassigned,
-            other: c.other,
+            ..c
         },
     }
 }
 
-fn line(rt: &impl Print, name: &[u8], n: u64) -> io::Result<()> {
-    rt.write_all(name)?;
-    println!(rt; "{n}")
+fn line(rt: &impl Print, name: &str, n: u64) -> io::Result<()> {
+    println!(rt; "{name} {n}")
 }
 
 fn count_all() -> Counts {
@@ -69,18 +60,16 @@ fn count_all() -> Counts {
         unassigned: 0,
         other: 0,
     };
-    let mut k: u32 = 0;
-    while k < 65536 {
+    for k in 0..65536 {
         c = counted(c, read_word(word_at(k)));
-        k += 1;
     }
     c
 }
 
 fn main(rt: HostRuntime) -> io::Result<()> {
     let c = count_all();
-    line(&rt, b"read ", c.read)?;
-    line(&rt, b"13 ", c.left_out)?;
-    line(&rt, b"12 ", c.unassigned)?;
-    line(&rt, b"14 ", c.other)
+    line(&rt, "read", c.read)?;
+    line(&rt, "13", c.left_out)?;
+    line(&rt, "12", c.unassigned)?;
+    line(&rt, "14", c.other)
 }

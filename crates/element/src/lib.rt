@@ -12,7 +12,7 @@ ghost use Rattle.element.specs.Elements.{Element};
 use isa::Width;
 
 // How an element is read: as a number from 0 on, or with its top bit for the sign.
-#[derive(Clone, Copy)]
+#[derive(Clone, Copy, Debug, PartialEq, Eq)]
 pub enum Reading {
     Unsigned,
     Signed,

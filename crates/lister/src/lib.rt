@@ -7,14 +7,6 @@ use std::io;
 use std::io::{Read, Write};
 use streams::read_full;
 
-fn half_of(a: u8, b: u8) -> u16 {
-    a as u16 + b as u16 * 256
-}
-
-fn word_of(b: [u8; 4]) -> u32 {
-    half_of(b[0], b[1]) as u32 + half_of(b[2], b[3]) as u32 * 65536
-}
-
 fn print_line<W: Write>(output: &mut W, address: u32, word: u32) -> io::Result<()> {
     let mut line = [0u8; 64];
     match write_line(&mut line, address, word) {
@@ -44,15 +36,13 @@ fn print_more<R: Read, W: Write>(input: &mut R, output: &mut W) -> io::Result<()
 
 // What it promises is that it is safe and ends.
 pub fn list_input<R: Read, W: Write>(input: &mut R, output: &mut W) -> io::Result<()> {
-    let mut address: u32 = 0;
-    while address < 16384 {
-        let mut bytes = [0u8; 4];
+    for k in 0..4096 {
+        let mut bytes = [0; 4];
         let n = read_full(input, &mut bytes)?;
         if n < 4 {
             return print_over(output, n);
         }
-        print_line(output, address, word_of(bytes))?;
-        address += 4;
+        print_line(output, 4 * k, u32::from_le_bytes(bytes))?;
     }
     print_more(input, output)
 }

@@ -6,9 +6,9 @@ use native.Mathlib.Omega.{arith}
 use native.Mathlib.Decide.{dec_le}
 use lib.ListN.{length}
 use Rattle.isa.specs.declared.Vreg.{Vreg}
-use Rattle.memory.specs.Bytes.{part, replaced, number, bytes_of, AreBytes}
+use Rattle.memory.specs.Bytes.{part, number, bytes_of, AreBytes}
 use Rattle.memory.specs.File.{register_at, with_register}
-use Rattle.memory.specs.Value.{value, register, Holds}
+use Rattle.memory.specs.Value.{register, Holds}
 use Rattle.memory.proofs.Parts.{part-past, length_part, length-replaced, part-replaced, part-before, part-after}
 use Rattle.memory.proofs.Numbers.{length-bytes_of, number-below, part_bytes, number-bytes_of}
 

@@ -1,15 +1,16 @@
--- Numbers in bytes: there and back, in two parts, and what the loop that writes one keeps.
+-- Numbers in bytes: there and back, in two parts, and as std reads and writes them.
 use mathlib.Core.Path.{◌≡◌, refl, sym, ap, ap₂, ◌∙◌}
 use mathlib.Core.List.{List, [], ◌∷◌, ◌++◌}
-use Prim.Native.Nat.{ℕ, zero, suc, ◌+◌, ◌-◌, ◌*◌, ◌/◌, ◌%◌, ◌^◌, ◌≤◌, ◌<◌}
+use Prim.Native.Nat.{ℕ, zero, suc, ◌+◌, ◌*◌, ◌/◌, ◌%◌, ◌^◌, ◌≤◌, ◌<◌}
 use native.Mathlib.Decide.{dec_le}
 use native.Mathlib.Omega.{arith}
-use native.Mathlib.Numerals.{add-one}
-use lib.ListN.{length, get_or, take, drop, set, length-take, get_or-eq_default}
+use lib.ListN.{length, get_or, take, drop, length-take, get_or-eq_default}
 use lib.Pow.{pow-add, mod-pow-add}
-use lib.Seq.{drop-cons, paste, paste-zero, paste-suc, length-paste, take-add, drop-drop}
+use lib.Seq.{take-add, take-length, drop-drop}
 use Rattle.memory.specs.Bytes.{part, replaced, number, bytes_of, AreBytes}
-use Rattle.memory.proofs.Parts.{get_d_part, length_part, paste-replaced, replaced-beside}
+use Rattle.memory.proofs.Parts.{get_d_part, length_part, part-cons, replaced-beside}
+use Rattle.std.proofs.Math.Nat.{pow-suc, div-div-eq-div-mul}
+use Rattle.std.specs.Int.{Width, w8, w16, w32, w64, w128, byte_len, byte_at, byte_worth, bytes_low_first, sum_through, to_le_bytes, from_le_bytes}
 
 pub length-bytes_of : (n x : ℕ) → length (bytes_of n x) ≡ n
 unfolding bytes_of
@@ -78,44 +79,55 @@ bytes_of-append (suc a) b x y h =
     let rest : whole / 256 ≡ x / 256 + y * 2 ^ (8 * a) = omega arith in
     rw (one, power) (ap₂ ◌∷◌ byte (ap (bytes_of (a + b)) rest ∙ bytes_of-append a b (x / 256) y (omega arith)))
 
--- i bytes of x are written from at on, and the rest of x is left
-pub record Written (v : List ℕ) (at n x : ℕ) (out : List ℕ) (rest i : ℕ) : Type 0 where
-  pub done : out ≡ paste v at (bytes_of n x) i
-  pub left : drop i (bytes_of n x) ≡ bytes_of (n - i) rest
-  pub within : i ≤ n
+-- std's words for the number that bytes spell, and for the bytes of a number
+pow_256 : (i : ℕ) → 256 ^ i ≡ 2 ^ (8 * i)
+pow_256 zero = omega arith
+pow_256 (suc i) = rw (power i, pow-suc) (omega (arith, pow_256 i))
 
-pub written_none : (v : List ℕ) (at n x : ℕ) → Written v at n x v x 0
-written_none v at n x =
-    let e : n - 0 ≡ n = omega arith in
-    record { done = paste-zero v at (bytes_of n x); left = rw e; within = omega arith }
+number-one : (s : List ℕ) (at : ℕ) → at < length s → number (part s at 1) ≡ get_or s at 0
+unfolding number
+number-one s at h = ap number (part-cons s at 0 h) ∙ omega arith
 
-module _ {v : List ℕ} {at n x : ℕ} {out : List ℕ} {rest i : ℕ} (r : Written v at n x out rest i) (fits : at + n ≤ length v) where
-  pub written-length : length out ≡ length v
-  written-length =
-      ap length r.done ∙ length-paste v at (bytes_of n x) i (omega (arith, r.within)) (omega (arith, r.within, length-bytes_of n x))
+number_of-first : (s : List ℕ) (k : ℕ) → k < length s → sum_through (λ i. byte_worth i (get_or s i 0)) k ≡ number (part s 0 (suc k))
+number_of-first s zero h = sym (number-one s 0 h)
+number_of-first s (suc k) h =
+    let size : suc (suc k) ≡ suc k + 1 = omega arith in
+    let start : 0 + suc k ≡ suc k = omega arith in
+    ap₂ (λ b n. b + get_or s (suc k) 0 * n) (number_of-first s k (omega arith)) (pow_256 (suc k))
+    ∙ sym (ap (λ n. number (part s 0 n)) size
+    ∙ number-parts s 0 (suc k) 1 (omega arith)
+    ∙ ap (λ n. number (part s 0 (suc k)) + n * 2 ^ (8 * suc k)) (ap (λ n. number (part s n 1)) start ∙ number-one s (suc k) h))
 
-  -- what is left begins with the next byte
-  next : i < n → get_or (bytes_of n x) i 0 ∷ drop (suc i) (bytes_of n x) ≡ rest % 256 ∷ bytes_of (n - suc i) (rest / 256)
-  unfolding bytes_of
-  next more =
-      let e : n - i ≡ suc (n - suc i) = omega arith in
-      sym (drop-cons (bytes_of n x) i 0 (omega (arith, length-bytes_of n x))) ∙ r.left ∙ ap (λ m. bytes_of m rest) e
+from_le : (w : Width) (s : List ℕ) → length s ≡ byte_len w → from_le_bytes w s ≡ number s
+from_le w s h = elim w as (λ v. length s ≡ byte_len v → from_le_bytes v s ≡ number s) [
+  | w8 ↦ λ e. whole 0 e
+  | w16 ↦ λ e. whole 1 e
+  | w32 ↦ λ e. whole 3 e
+  | w64 ↦ λ e. whole 7 e
+  | w128 ↦ λ e. whole 15 e
+] h
+  where
+    whole : (k : ℕ) → length s ≡ suc k → sum_through (λ i. byte_worth i (get_or s i 0)) k ≡ number s
+    whole k e = number_of-first s k (omega arith) ∙ ap (λ n. number (take n s)) (sym e) ∙ ap number (take-length s)
 
-  pub written-more : i < n → Written v at n x (set out (at + i) (rest % 256)) (rest / 256) (i + 1)
-  written-more more =
-      let nx = next more in
-      let byte : get_or (bytes_of n x) i 0 ≡ rest % 256 = cc in
-      let tail : drop (suc i) (bytes_of n x) ≡ bytes_of (n - suc i) (rest / 256) = cc in
-      record {
-        done = rw (add-one, r.done, ← byte) (paste-suc v at (bytes_of n x) i 0 (omega arith) (omega (arith, length-bytes_of n x)));
-        left = rw add-one tail;
-        within = omega arith;
-      }
+-- what std reads of a part
+pub number_read : (w : Width) (s : List ℕ) (at : ℕ) {b : List ℕ} {n : ℕ} → n ≡ from_le_bytes w b → b ≡ part s at (byte_len w)
+    → at + byte_len w ≤ length s → n ≡ number (part s at (byte_len w))
+number_read w s at e bytes fits = e ∙ from_le w _ (ap length bytes ∙ length_part s at (byte_len w) fits) ∙ ap number bytes
 
-  pub written_all : n ≤ i → out ≡ replaced v at (bytes_of n x)
-  written_all h =
-      let e : i ≡ length (bytes_of n x) = omega (arith, r.within, length-bytes_of n x) in
-      r.done ∙ ap (paste v at (bytes_of n x)) e ∙ paste-replaced v at (bytes_of n x)
+bytes_from : (i k x : ℕ) → bytes_low_first i k x ≡ bytes_of k (x / 256 ^ i)
+unfolding bytes_of
+bytes_from i zero x = refl
+bytes_from i (suc k) x =
+    ap₂ ◌∷◌ (byte i)
+    (bytes_from (suc i) k x ∙ ap (λ n. bytes_of k (x / n)) (pow-suc 256 i) ∙ ap (bytes_of k) (sym (div-div-eq-div-mul x (256 ^ i) 256)))
+  where
+    byte : (i : ℕ) → byte_at i x ≡ x / 256 ^ i % 256
+    byte zero = omega arith
+    byte (suc i) = refl
+
+pub to_le : (w : Width) (x : ℕ) → to_le_bytes w x ≡ bytes_of (byte_len w) x
+to_le w x = bytes_from 0 (byte_len w) x ∙ ap (bytes_of (byte_len w)) (omega arith)
 
 -- the bytes of one number written beside those of another
 pub replaced-two : (d : List ℕ) (at a b x y : ℕ) → at + a ≤ length d → x < 2 ^ (8 * a)

@@ -7,13 +7,14 @@ use native.Mathlib.Nat.{add-suc}
 use native.Mathlib.Numerals.{add-one}
 use native.Mathlib.Omega.{arith}
 use lib.ListN.{length, take, drop, get_or, get_or-append, length-append, length-take, length-drop, drop_of_length-le}
-use lib.Seq.{ext_get_or, get_or-append-add, get_or-drop, get_or-take, drop-cons, paste, take-length, take_at, drop_at, drop-drop}
+use borrow.Rule.Slice.PartMut.{put_mid}
+use lib.Seq.{ext_get_or, get_or-append-add, get_or-drop, get_or-take, drop-cons, take_at, drop_at, drop-drop}
 use Rattle.memory.specs.Bytes.{part, replaced}
 
 pub length_part : (s : List ℕ) (at n : ℕ) → at + n ≤ length s → length (part s at n) ≡ n
 length_part s at n h = simp (length-take, length-drop) (omega arith)
 
-part-cons : (s : List ℕ) (at n : ℕ) → at < length s → part s at (suc n) ≡ get_or s at 0 ∷ part s (at + 1) n
+pub part-cons : (s : List ℕ) (at n : ℕ) → at < length s → part s at (suc n) ≡ get_or s at 0 ∷ part s (at + 1) n
 part-cons s at n h = rw (drop-cons s at 0 h, add-one)
 
 part-next : (s : List ℕ) (at k n : ℕ) → at + k < length s → part s (at + k) (suc n) ≡ get_or s (at + k) 0 ∷ part s (at + suc k) n
@@ -23,12 +24,6 @@ part-next s at k n h = rw (drop-cons s (at + k) 0 h, ← add-suc)
 pub part-past : (s : List ℕ) (at n : ℕ) → length s ≤ at → part s at n ≡ []
 part-past s at zero h = refl
 part-past s at (suc n) h = ap (take (suc n)) (drop_of_length-le s h)
-
--- the four bytes from at, one by one
-pub part-four : (s : List ℕ) (at : ℕ) → at + 4 ≤ length s
-    → part s at 4 ≡ get_or s at 0 ∷ get_or s (at + 1) 0 ∷ get_or s (at + 2) 0 ∷ get_or s (at + 3) 0 ∷ []
-part-four s at h =
-    rw (part-cons s at 3 (omega arith), part-next s at 1 2 (omega arith), part-next s at 2 1 (omega arith), part-next s at 3 0 (omega arith))
 
 pub get_d_part : (s : List ℕ) (at n k : ℕ) → k < n → get_or (part s at n) k 0 ≡ get_or s (at + k) 0
 get_d_part s at n k h = get_or-take n (drop at s) k 0 h ∙ get_or-drop at s k 0
@@ -42,10 +37,13 @@ same-part s₁ s₂ i j n h₁ h₂ f =
     let l : k < n = omega (arith, length_part s₁ i n h₁) in
     get_d_part s₁ i n k l ∙ f k l ∙ sym (get_d_part s₂ j n k l))
 
--- a copy of all of s is the replacement by s
-pub paste-replaced : (d : List ℕ) (at : ℕ) (s : List ℕ) → paste d at s (length s) ≡ replaced d at s
+-- a write to `d[at..at + k]` is the replacement by what is written
+pub replaced-mid : (d : List ℕ) (at : ℕ) {k : ℕ} {s t : List ℕ} → s ≡ t → k ≡ length t → put_mid at k d s ≡ replaced d at t
 unfolding replaced
-paste-replaced d at s = rw (take-length s)
+replaced-mid d at {t = t} e l =
+    ap₂ (λ n s. take at d ++ (s ++ drop n (drop at d))) l e
+    ∙ sym (append_assoc (take at d) t (drop (length t) (drop at d)))
+    ∙ ap (λ l. take at d ++ t ++ l) (drop-drop (length t) at d)
 
 module _ (d : List ℕ) (at : ℕ) (s : List ℕ) (fits : at + length s ≤ length d) where
   pub length-replaced : length (replaced d at s) ≡ length d

@@ -1,5 +1,5 @@
 -- A register in two words and its number: each is the other's inverse.
-use mathlib.Core.Path.{◌≡◌, refl, sym, ap, ◌∙◌}
+use mathlib.Core.Path.{◌≡◌, sym, ap, ◌∙◌}
 use Prim.Native.Nat.{ℕ, ◌*◌, ◌/◌, ◌%◌, ◌^◌, ◌<◌}
 use native.Mathlib.Nat.{add_comm, mod-eq_of_lt}
 use lib.Arith.{digits_lt}

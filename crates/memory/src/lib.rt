@@ -15,10 +15,20 @@ pub struct Register {
     pub high: u64,
 }
 
-fn wide(b: u8) -> u32
-    ensures { (result ≡ b) × (result < 256) }
+// The N bytes from at.
+fn bytes_at<const N: usize>(s: &[u8], at: usize) -> [u8; N]
+    requires { at + N ≤ length s.now }
+    ensures { result ≡ part s.now at N }
 {
-    b as u32
+    s[at..at + N].try_into().unwrap()
+}
+
+// The number of the two bytes from at.
+pub fn two(s: &[u8], at: usize) -> u16
+    requires { at + 2 ≤ length s.now }
+    ensures { result ≡ number (part s.now at 2) }
+{
+    u16::from_le_bytes(bytes_at(s, at))
 }
 
 // The number of the four bytes from at.
@@ -26,11 +36,7 @@ pub fn four(s: &[u8], at: usize) -> u32
     requires { at + 4 ≤ length s.now }
     ensures { result ≡ number (part s.now at 4) }
 {
-    let b0 = wide(s[at]);
-    let b1 = wide(s[at + 1]);
-    let b2 = wide(s[at + 2]);
-    let b3 = wide(s[at + 3]);
-    b0 + 256 * (b1 + 256 * (b2 + 256 * b3))
+    u32::from_le_bytes(bytes_at(s, at))
 }
 
 // The number of the eight bytes from at.
@@ -38,9 +44,7 @@ pub fn eight(s: &[u8], at: usize) -> u64
     requires { at + 8 ≤ length s.now }
     ensures { result ≡ number (part s.now at 8) }
 {
-    let low = four(s, at) as u64;
-    let high = four(s, at + 4) as u64;
-    low + high * 0x1_0000_0000
+    u64::from_le_bytes(bytes_at(s, at))
 }
 
 // The sixteen bytes from at, as a register.
@@ -59,13 +63,7 @@ pub fn put_eight(d: &mut [u8], at: usize, x: u64)
     requires { at + 8 ≤ length d.old }
     ensures { d.new ≡ replaced d.old at (bytes_of 8 x) }
 {
-    let mut rest = x;
-    let mut i = 0;
-    while i < 8 {
-        d[at + i] = (rest % 256) as u8;
-        rest = rest / 256;
-        i += 1;
-    }
+    d[at..at + 8].copy_from_slice(&x.to_le_bytes());
 }
 
 // Replaces the sixteen bytes from at by those of v.

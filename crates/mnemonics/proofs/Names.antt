@@ -60,6 +60,10 @@ within m (n ∷ ns) = go (eqb n m) (within m ns)
     go true h = omega arith
     go false h = omega arith
 
+pub line_within : (m : ℕ) → line_of m ≤ 27
+unfolding line_of
+line_within m = within m lines
+
 -- ---- the text
 
 -- of each place of a line: the name's length as a digit, and eight bytes

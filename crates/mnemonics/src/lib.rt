@@ -2,7 +2,7 @@
 // places: the name's length, and eight bytes.
 #![tactic(auto)]
 
-ghost use Rattle.std.specs.Prelude.{◌≡◌, ◌+◌, ◌≤◌, length, take, drop};
+ghost use Rattle.std.specs.Prelude.{◌≡◌, ◌+◌, ◌<◌, ◌≤◌, length, take, drop, MatchOption};
 ghost use Rattle.ops.specs.Table.{mnemonic};
 ghost use Rattle.text.specs.Text.{Room, Puts};
 ghost use Rattle.mnemonics.specs.Lines.{line_of};
@@ -14,26 +14,19 @@ fn put_part(line: &mut [u8], at: usize, text: &[u8], from: usize, n: usize) -> u
     requires { (from + n ≤ length text.now) × Room line.old at (take n (drop from text.now)) }
     ensures { Puts line.old at (take n (drop from text.now)) line.new result }
 {
-    let end = from + n;
-    put_text(line, at, &text[from..end])
+    put_text(line, at, &text[from..from + n])
 }
 
-fn wide(x: u8) -> usize
-    ensures { result ≡ x }
+// The line of a row of the table, where one of its places has a name: a letter a row, from a on and { after z, or |
+// where none has.
+fn line_of(m: usize) -> Option<usize>
+    ensures { MatchOption result (line_of m ≡ 27) (λ row. (row ≡ line_of m) × (row < 27)) }
 {
-    x as usize
-}
-
-// The line of a row of the table, a letter a row from a on and { after z; |, past the last one, where none of its
-// places has a name.
-fn line_of(m: usize) -> usize
-    ensures { result ≡ line_of m }
-{
-    if 63 < m {
-        return 27;
+    let letter = *b"abc|||de|fg||hijklmnop||||||||||q|||r|||s|t|u|||||||vwxyz|{|||||".get(m)?;
+    if letter == b'|' {
+        return None;
     }
-    let lines = b"abc|||de|fg||hijklmnop||||||||||q|||r|||s|t|u|||||||vwxyz|{|||||";
-    wide(lines[m]) - 97
+    Some(usize::from(letter - b'a'))
 }
 
 // The mnemonic of place k; a place without one writes nothing.
@@ -41,10 +34,9 @@ pub fn put_name(line: &mut [u8], at: usize, k: usize) -> usize
     requires { Room line.old at (mnemonic k) }
     ensures { Puts line.old at (mnemonic k) line.new result }
 {
-    let row = line_of(k / 8);
-    if 26 < row {
+    let Some(row) = line_of(k / 8) else {
         return at;
-    }
+    };
     let text = b"4ANDI    3ORI     4NORI    4XORI    0        0        0        0        \
 5BMNZI   4BMZI    5BSELI   0        0        0        0        0        \
 3SHF     0        0        0        0        0        0        0        \
@@ -73,6 +65,6 @@ pub fn put_name(line: &mut [u8], at: usize, k: usize) -> usize
 0        0        0        0        0        3LSA     0        0        \
 0        0        0        0        0        4DLSA    0        0        ";
     let cell = 8 * row + k % 8;
-    let n = wide(text[9 * cell]) - 48;
+    let n = usize::from(text[9 * cell] - b'0');
     put_part(line, at, text, 9 * cell + 1, n)
 }

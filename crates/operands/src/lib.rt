@@ -15,7 +15,7 @@ fn put_vector(line: &mut [u8], at: usize, r: u8) -> usize
     ensures { Puts line.old at (operands.vector r) line.new result }
 {
     let next = put_text(line, at, b"$w");
-    put_decimal(line, next, r as u32)
+    put_decimal(line, next, u32::from(r))
 }
 
 // A general or a control register.
@@ -24,20 +24,18 @@ fn put_register(line: &mut [u8], at: usize, r: u8) -> usize
     ensures { Puts line.old at (operands.register r) line.new result }
 {
     let next = put_byte(line, at, b'$');
-    put_decimal(line, next, r as u32)
+    put_decimal(line, next, u32::from(r))
 }
 
 fn put_number(line: &mut [u8], at: usize, n: Number) -> usize
     requires { Room line.old at (operands.number n) }
     ensures { Puts line.old at (operands.number n) line.new result }
 {
-    let minus = n.minus;
-    let size = n.size as u32;
-    if minus {
+    if n.minus {
         let next = put_byte(line, at, b'-');
-        return put_decimal(line, next, size);
+        return put_decimal(line, next, u32::from(n.size));
     }
-    put_decimal(line, at, size)
+    put_decimal(line, at, u32::from(n.size))
 }
 
 fn put_element(line: &mut [u8], at: usize, r: u8, n: u8) -> usize
@@ -46,7 +44,7 @@ fn put_element(line: &mut [u8], at: usize, r: u8, n: u8) -> usize
 {
     let open = put_vector(line, at, r);
     let index = put_byte(line, open, b'[');
-    let close = put_decimal(line, index, n as u32);
+    let close = put_decimal(line, index, u32::from(n));
     put_byte(line, close, b']')
 }
 
@@ -89,16 +87,7 @@ fn put_operand(line: &mut [u8], at: usize, o: Operand) -> usize
 fn present(o: Operand) -> bool
     ensures { result ≡ operands.present o }
 {
-    match o {
-        Operand::Nothing => false,
-        Operand::Vector(_) => true,
-        Operand::General(_) => true,
-        Operand::Control(_) => true,
-        Operand::Number(_) => true,
-        Operand::Element(_, _) => true,
-        Operand::Chosen(_, _) => true,
-        Operand::Offset(_, _) => true,
-    }
+    !matches!(o, Operand::Nothing)
 }
 
 // An operand that follows another.

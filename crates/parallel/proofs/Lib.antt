@@ -1,7 +1,6 @@
 -- The laws that the proofs of several functions, and of other crates, share.
 pub mod Words
 pub mod Named
-pub mod Turns
 pub mod Whole
 pub mod TopBit
 pub mod Tested

@@ -43,30 +43,13 @@ amount-mask H e = and_mask e 4
 amount-mask W e = and_mask e 5
 amount-mask D e = and_mask e 6
 
--- what stands above an element does not count
-amount-cut : (w : Width) (y : ℕ) → y % bits w ≡ y % 2 ^ bits w % bits w
-amount-cut B y = sym (mod-mod-pow y 5 3)
-amount-cut H y = sym (mod-mod-pow y 12 4)
-amount-cut W y = sym (mod-mod-pow y 27 5)
-amount-cut D y = sym (mod-mod-pow y 58 6)
-
--- so a shift to the left has no need of a cut before it
-pub sll-cut : (w : Width) (x k : ℕ) → x * 2 ^ k % 2 ^ 64 % 2 ^ bits w ≡ sll (bits w) (x % 2 ^ bits w) k
+-- what is shifted out of the word is no part of the element
+pub sll-cut : (w : Width) (x k : ℕ) → x * 2 ^ k % 2 ^ 64 % 2 ^ bits w ≡ sll (bits w) x k
 unfolding sll
-sll-cut w x k =
-    let m = 2 ^ bits w in
-    low-low w (x * 2 ^ k) ∙ ap (λ z. z % m) (ap (λ z. z * 2 ^ k) (sym (div-add-mod' x m)) ∙ omega arith)
-    ∙ add-mul-mod_self_right (x % m * 2 ^ k) (x / m * 2 ^ k) m
+sll-cut w x k = low-low w (x * 2 ^ k)
 
 pub amount-below : (w : Width) (e : ℕ) → e % bits w < bits w
 amount-below w e = mod-lt e (size w).any
-
-module _ (w : Width) {n : ℕ} (en : n ≡ bits w) (y : ℕ) where
-  pub amount-is : bit_and y (n - 1) ≡ y % 2 ^ bits w % bits w
-  amount-is = rw en (amount-mask w y) ∙ amount-cut w y
-
-  pub amount-fits : bit_and y (n - 1) < 64
-  amount-fits = omega (arith, amount-is, amount-below w (y % 2 ^ bits w), (size w).few)
 
 -- the amount that an element with its bits the other way round asks for
 pub amount-inverse : (w : Width) (x : ℕ) → x < 2 ^ bits w

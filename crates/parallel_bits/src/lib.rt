@@ -2,12 +2,12 @@
 // The shifts of this file have one amount for all elements.
 #![tactic(auto)]
 
-ghost use Rattle.std.specs.Prelude.{◌-◌, ◌/◌, ◌^◌, ◌<◌};
+ghost use Rattle.std.specs.Prelude.{◌≡◌, ◌-◌, ◌/◌, ◌%◌, ◌^◌, ◌<◌};
 ghost use Rattle.isa.specs.Widths.{bits};
 ghost use Rattle.bits.specs.Shifts as shifts;
 ghost use Rattle.parallel.specs.Lanes.{Each1, Lanes};
 
-use element::ones;
+use element::{count, ones};
 use isa::Width;
 use parallel::units;
 
@@ -22,6 +22,15 @@ pub fn spread_word(w: Width, e: u64) -> u64
     ensures { Lanes (bits w) result (λ _. e) }
 {
     units(w) * e
+}
+
+// The amount that y asks for: it counts modulo the width.
+fn amount(w: Width, y: u64) -> u64
+    ensures is { result ≡ y % bits w }
+    ensures below { result < bits w }
+    ensures few { result < 64 }
+{
+    y & (count(w) - 1)
 }
 
 // In every element ones but for the k top bits.

@@ -1,49 +1,45 @@
 // Shifts by the amounts in the elements of t, which count modulo the width. Where the elements of t are all the same,
 // as those of an immediate are, one shift of the word does it; where they differ, it goes by `steps`.
-ghost use Rattle.std.specs.Prelude.{◌≡◌, ℕ, ◌/◌, ◌%◌, ◌^◌, ◌<◌};
+ghost use Rattle.std.specs.Prelude.{◌≡◌, ℕ, ◌/◌, ◌%◌, ◌^◌, ◌<◌, IfSome};
 ghost use Rattle.isa.specs.Widths.{bits};
 ghost use Rattle.bits.specs.Shifts as shifts;
 ghost use Rattle.vectors.specs.Register.{element};
 ghost use Rattle.parallel.specs.Lanes.{Each1, Each2};
 
 use super::steps::{left_each, right_each};
-use super::{shr, sll, spread_word};
-use element::{Reading, count, low, pow2};
+use super::{amount, shr, sll, spread_word};
+use element::{Reading, low, pow2};
 use isa::Width;
 use parallel::{filled, units, viewed};
 
-// The amount that every element of t asks for, or the width where the elements differ.
-fn common(w: Width, t: u64) -> u64
-    ensures { result < bits w → (i : ℕ) → i < 64 / bits w → element (bits w) t i % bits w ≡ result }
+// The amount that every element of t asks for, where they all ask for one.
+fn common(w: Width, t: u64) -> Option<u64>
+    ensures { IfSome result
+        (λ k. (k < bits w) × ((i : ℕ) → i < 64 / bits w → element (bits w) t i % bits w ≡ k)) }
 {
     let e = low(w, t);
-    let n = count(w);
     if spread_word(w, e) == t {
-        e & (n - 1)
+        Some(amount(w, e))
     } else {
-        n
+        None
     }
 }
 
 pub fn left(w: Width, s: u64, t: u64) -> u64
     ensures { Each2 (bits w) result (λ a b. shifts.sll (bits w) a (b % bits w)) s t }
 {
-    let k = common(w, t);
-    if k < count(w) {
-        sll(w, s, k)
-    } else {
-        left_each(w, s, t)
+    match common(w, t) {
+        Some(k) => sll(w, s, k),
+        None => left_each(w, s, t),
     }
 }
 
 fn right(w: Width, s: u64, t: u64) -> u64
     ensures { Each2 (bits w) result (λ a b. a / 2 ^ (b % bits w)) s t }
 {
-    let k = common(w, t);
-    if k < count(w) {
-        shr(w, s, k)
-    } else {
-        right_each(w, s, t)
+    match common(w, t) {
+        Some(k) => shr(w, s, k),
+        None => right_each(w, s, t),
     }
 }
 
@@ -51,11 +47,9 @@ fn right(w: Width, s: u64, t: u64) -> u64
 pub fn powers(w: Width, t: u64) -> u64
     ensures { Each1 (bits w) result (λ b. 2 ^ (b % bits w)) t }
 {
-    let k = common(w, t);
-    if k < count(w) {
-        spread_word(w, pow2(k))
-    } else {
-        left_each(w, units(w), t)
+    match common(w, t) {
+        Some(k) => spread_word(w, pow2(k)),
+        None => left_each(w, units(w), t),
     }
 }
 
@@ -123,8 +117,7 @@ fn rounded_by(w: Width, g: Reading, s: u64, k: u64) -> u64
 pub fn shift_rounded(w: Width, g: Reading, s: u64, t: u64) -> u64
     ensures { Each2 (bits w) result (λ a b. shifts.shift_rounded g (bits w) a (b % bits w)) s t }
 {
-    let k = common(w, t);
-    if k < count(w) {
+    if let Some(k) = common(w, t) {
         return rounded_by(w, g, s, k);
     }
     match g {

@@ -6,36 +6,22 @@ ghost use Rattle.parallel.specs.Lanes.{Each2};
 use element::Reading;
 use isa::Width;
 use products::division;
-use vectors::{in_word, joined, per_word};
+use vectors::{built, in_word};
 
 pub fn quotients(w: Width, g: Reading, s: u64, t: u64) -> u64
     ensures { Each2 (bits w) result (products.quotient g (bits w)) s t }
 {
-    let mut out = 0u64;
-    let mut i = per_word(w);
-    while 0 < i {
-        i -= 1;
-        out = joined(
-            w,
-            out,
-            division::quotient(w, g, in_word(w, s, i), in_word(w, t, i)),
-        );
-    }
-    out
+    built(
+        w,
+        |w, i| division::quotient(w, g, in_word(w, s, i), in_word(w, t, i)),
+    )
 }
 
 pub fn remainders(w: Width, g: Reading, s: u64, t: u64) -> u64
     ensures { Each2 (bits w) result (products.remainder g (bits w)) s t }
 {
-    let mut out = 0u64;
-    let mut i = per_word(w);
-    while 0 < i {
-        i -= 1;
-        out = joined(
-            w,
-            out,
-            division::remainder(w, g, in_word(w, s, i), in_word(w, t, i)),
-        );
-    }
-    out
+    built(
+        w,
+        |w, i| division::remainder(w, g, in_word(w, s, i), in_word(w, t, i)),
+    )
 }

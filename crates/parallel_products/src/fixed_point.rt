@@ -7,28 +7,24 @@ ghost use Rattle.parallel.specs.Lanes.{Each3};
 
 use fixed::{old, rounds, subtracts, summed};
 use isa::{Fixed, Width};
-use vectors::{in_word, joined, per_word};
+use vectors::{built, in_word};
 
 fn sums(w: Width, rounded: bool, minus: bool, d: u64, s: u64, t: u64) -> u64
     requires { bits w ≤ 32 }
     ensures { Each3 (bits w) result
         (λ a b c. fixeds.cut rounded (bits w) (fixeds.summed minus (bits w) a b c)) d s t }
 {
-    let mut out = 0u64;
-    let mut i = per_word(w);
-    while 0 < i {
-        i -= 1;
-        let e = summed(
+    built(
+        w,
+        |w, i| summed(
             w,
             rounded,
             minus,
             in_word(w, d, i),
             in_word(w, s, i),
             in_word(w, t, i),
-        );
-        out = joined(w, out, e);
-    }
-    out
+        ),
+    )
 }
 
 // In formats of which 64 bits hold the products.

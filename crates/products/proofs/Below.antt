@@ -24,11 +24,22 @@ module _ (n s t : ℕ) where
   unfolding products.remainder
   remainder-below g = cond_below (eqb t 0) (wrap-below n _) (wrap-below n _)
 
+  pub mulv-below : products.mulv n s t < 2 ^ n
+  unfolding products.mulv
+  mulv-below = mod-lt _ (pow_pos n)
+
+  pub maddv-below : (d : ℕ) → products.maddv n d s t < 2 ^ n
+  unfolding products.maddv
+  maddv-below d = wrap-below n _
+
+  pub msubv-below : (d : ℕ) → products.msubv n d s t < 2 ^ n
+  unfolding products.msubv
+  msubv-below d = wrap-below n _
+
   pub product-below : (d : ℕ) (o : Product) → product_of o n d s t < 2 ^ n
-  unfolding products.mulv products.maddv products.msubv
-  product-below d Mulv = mod-lt _ (pow_pos n)
-  product-below d Maddv = wrap-below n _
-  product-below d Msubv = wrap-below n _
+  product-below d Mulv = mulv-below
+  product-below d Maddv = maddv-below d
+  product-below d Msubv = msubv-below d
   product-below d DivS = quotient-below Signed
   product-below d DivU = quotient-below Unsigned
   product-below d ModS = remainder-below Signed

@@ -24,7 +24,7 @@ pub fn signed(full: u32, x: u16) -> Number
     requires { (1 < full) × (full ≤ 65536) }
     ensures { (result ≡ shows.signed full x) × (result.size < full) }
 {
-    let low = x as u32 % full;
+    let low = u32::from(x) % full;
     if low < full / 2 {
         return number(false, low as u16);
     }

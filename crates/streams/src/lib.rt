@@ -14,11 +14,7 @@ pub fn count(n: isize, buf: &[u8]) -> usize
     ensures in_bounds { IsPrefixLen result buf.now }
     ensures value { result ≡ clamp_len n (length buf.now) }
 {
-    if n <= 0 {
-        return 0;
-    }
-    let n = n as usize;
-    if n < buf.len() { n } else { buf.len() }
+    usize::try_from(n).unwrap_or(0).min(buf.len())
 }
 
 // Reads until buf is full or the input ends, and answers how many bytes it put at the start of buf. On an empty buf it
@@ -28,6 +24,7 @@ pub fn read_full<R: Read>(from: &mut R, buf: &mut [u8]) -> io::Result<usize>
     ensures bytes { IfOk result (λ n. Consumes (R.remaining from.old) (R.remaining from.new) (take n buf.new)) }
     ensures end { IfOk result (λ n. n < length buf.new → IsAtEnd (R.remaining from.new)) }
 {
+    // A while loop: std's read_exact fails where the input ends, and does not say how many bytes it read.
     let mut done = 0;
     while done < buf.len() {
         let n = from.read(&mut buf[done..])?;

@@ -1,8 +1,7 @@
 // Pieces of text put into a lent line, each from a place on. Each answers the place behind it, so a line is a run of these.
 #![tactic(auto)]
 
-ghost use Rattle.std.specs.Prelude.{◌≡◌, [], ◌∷◌, ◌<◌, ◌≤◌, ltb, length, replicate};
-ghost use Rattle.fields.specs.Fields.{both};
+ghost use Rattle.std.specs.Prelude.{◌≡◌, [], ◌∷◌, ◌<◌, ◌≤◌, length, replicate};
 ghost use Rattle.text.specs.Text.{Room, Puts};
 ghost use Rattle.text.specs.Numerals.{digit, numeral, decimal, hex};
 
@@ -18,32 +17,16 @@ pub fn put_text(line: &mut [u8], at: usize, text: &[u8]) -> usize
     requires { Room line.old at text.now }
     ensures { Puts line.old at text.now line.new result }
 {
-    let mut i = 0;
-    while i < text.len() {
-        line[at + i] = text[i];
-        i += 1;
-    }
-    at + i
+    let next = at + text.len();
+    line[at..next].copy_from_slice(text);
+    next
 }
 
 fn digit_of(d: u32) -> u8
     requires { d < 16 }
     ensures { result ≡ digit d }
 {
-    DIGITS[d as usize]
-}
-
-const DIGITS: [u8; 16] = [
-    48, 49, 50, 51, 52, 53, 54, 55, 56, 57, 65, 66, 67, 68, 69, 70,
-];
-
-fn ends(short: bool, n: u32, base: u32) -> bool
-    ensures { result ≡ both short (ltb n base) }
-{
-    if short {
-        return n < base;
-    }
-    false
+    b"0123456789ABCDEF"[d as usize]
 }
 
 // The last digits of a number, as many as `most`; where it is to be short, no more than it has.
@@ -55,7 +38,7 @@ fn put_numeral(line: &mut [u8], at: usize, base: u32, short: bool, most: u32, n:
         return at;
     }
     let last = digit_of(n % base);
-    if ends(short, n, base) {
+    if short && n < base {
         return put_byte(line, at, last);
     }
     let next = put_numeral(line, at, base, short, most - 1, n / base);
@@ -79,9 +62,5 @@ pub fn put_hex(line: &mut [u8], at: usize, n: u32) -> usize
 pub fn blank(line: &mut [u8])
     ensures { line.new ≡ replicate (length line.old) 32 }
 {
-    let mut i = 0;
-    while i < line.len() {
-        line[i] = 32;
-        i += 1;
-    }
+    line.fill(b' ');
 }

@@ -1,8 +1,8 @@
--- A number by its elements: element and build are each other's inverse; what the loop that builds a word keeps; a number in two parts.
+-- A number by its elements: element and build are each other's inverse; a number in two parts; one more element below.
 use mathlib.Core.Path.{◌≡◌, refl, sym, ap, ap₂, ◌∙◌}
 use Prim.Native.Nat.{ℕ, zero, suc, ◌+◌, ◌-◌, ◌*◌, ◌/◌, ◌%◌, ◌^◌, ◌≤◌, ◌<◌}
 use native.Mathlib.Omega.{arith}
-use native.Mathlib.Nat.{mod-lt, mod-one, mul-zero, zero-mod, div-eq_of_lt, mul-le-mul_left, mul-le-mul_right, add-mul-div_right, add-mul-mod_self_right, mod-eq_of_lt}
+use native.Mathlib.Nat.{mod-lt, mod-one, mul-zero, zero-mod, div-eq_of_lt, div-one, mul-le-mul_left, mul-le-mul_right, add-mul-div_right, add-mul-mod_self_right, mod-eq_of_lt}
 use lib.Arith.{digits_div}
 use lib.Pow.{pow_pos, pow-add, shr-shr, mod-pow-add}
 use Rattle.vectors.specs.Register.{element, build}
@@ -19,33 +19,6 @@ pub build-below : (n : ℕ) (f : ℕ → ℕ) → ((i : ℕ) → f i < 2 ^ n) �
 unfolding build
 build-below n f below zero = pow_pos (n * zero)
 build-below n f below (suc m) = rw next (omega (arith, build-below n f below m, mul-le-mul_right (2 ^ (n * m)) (below m)))
-
--- out holds the elements from i up to m
-pub record Built (n : ℕ) (f : ℕ → ℕ) (m out i : ℕ) : Type 0 where
-  pub built : build n f m ≡ build n f i + out * 2 ^ (n * i)
-  pub within : i ≤ m
-
-pub built-none : (n : ℕ) (f : ℕ → ℕ) (m : ℕ) → Built n f m 0 m
-built-none n f m = record { built = omega arith; within = omega arith }
-
-pub built-more : {n : ℕ} {f : ℕ → ℕ} {m out i : ℕ} → Built n f m out i → 0 < i → Built n f m (out * 2 ^ n + f (i - 1)) (i - 1)
-unfolding build
-built-more {i = zero} b some = absurd (omega arith)
-built-more {i = suc i} b some =
-    let e : suc i - 1 ≡ i = omega arith in
-    rw e (record { built = b.built ∙ rw next (omega arith); within = omega (arith, b.within) })
-
--- what is held so far has no more bits than the whole
-pub built-room : {n : ℕ} {f : ℕ → ℕ} {m out i : ℕ} → Built n f m out i → ((j : ℕ) → f j < 2 ^ n) → out < 2 ^ (n * m)
-built-room {n} {f} {m} {out} {i} b below =
-    omega (arith, b.built, build-below n f below m, mul-le-mul_left {m = 1} {n = 2 ^ (n * i)} out (pow_pos (n * i)))
-
-pub built-all : {n : ℕ} {f : ℕ → ℕ} {m out i : ℕ} → Built n f m out i → i ≤ 0 → out ≡ build n f m
-unfolding build
-built-all {n} {i = i} b h =
-    let e : i ≡ 0 = omega arith in
-    let z : n * 0 ≡ 0 = omega arith in
-    sym ((rw (e, z) at b.built) ∙ omega arith)
 
 -- two lists of elements, one above the other
 pub build-split : (n : ℕ) (f : ℕ → ℕ) (a b : ℕ) → build n f (a + b) ≡ build n f a + build n (λ i. f (a + i)) b * 2 ^ (n * a)
@@ -85,6 +58,35 @@ module _ (n m low high : ℕ) where
       let whole : (low + high * 2 ^ (n * m)) / 2 ^ (n * m) ≡ high =
       ap (λ x. x / 2 ^ (n * m)) (omega arith) ∙ digits_div high h in
       rw (place, ← shr-shr (low + high * 2 ^ (n * m)) (n * m) (n * i), whole)
+
+-- a number with one more element below its own
+module _ (n out : ℕ) {e : ℕ} (fits : e < 2 ^ n) where
+  lowest : element n (out * 2 ^ n + e) 0 ≡ e
+  unfolding element
+  lowest =
+      let none : n * 0 ≡ 0 = omega arith in
+      let order : out * 2 ^ n + e ≡ e + out * 2 ^ n = omega arith in
+      rw (none, div-one (out * 2 ^ n + e), order) (add-mul-mod_self_right e out (2 ^ n) ∙ mod-eq_of_lt fits)
+
+  above : (j : ℕ) → element n (out * 2 ^ n + e) (suc j) ≡ element n out j
+  unfolding element
+  above j =
+      let place : n * suc j ≡ n + n * j = omega arith in
+      rw (place, ← shr-shr (out * 2 ^ n + e) n (n * j), digits_div out fits)
+
+  -- with room for both, and each element what it has to be
+  module _ {m i : ℕ} (left : 0 < i) (within : i ≤ m) where
+    pub room-more : out < 2 ^ (n * (m - i)) → out * 2 ^ n + e < 2 ^ (n * (m - (i - 1)))
+    room-more room =
+        let more : m - (i - 1) ≡ suc (m - i) = omega arith in
+        rw (more, next n (m - i)) (omega (arith, mul-le-mul_right {m = suc out} {n = 2 ^ (n * (m - i))} (2 ^ n) (omega arith)))
+
+    pub elements-more : (P : ℕ → ℕ → Type 0) → P (i - 1) e → ((j : ℕ) → j < m - i → P (i + j) (element n out j))
+        → (j : ℕ) → j < m - (i - 1) → P (i - 1 + j) (element n (out * 2 ^ n + e) j)
+    elements-more P here rest zero l = let place : i - 1 + 0 ≡ i - 1 = omega arith in rw (place, lowest) here
+    elements-more P here rest (suc j) l =
+        let place : i - 1 + suc j ≡ i + j = omega arith in
+        rw (place, above j) (rest j (omega arith))
 
 -- past the end of a number its elements are 0
 pub element-beyond : (n v i : ℕ) → v < 2 ^ (n * i) → element n v i ≡ 0

@@ -2,7 +2,7 @@
 // built element by element is built word by word.
 #![tactic(auto)]
 
-ghost use Rattle.std.specs.Prelude.{◌≡◌, ◌+◌, ◌*◌, ◌/◌, ◌^◌, ◌<◌};
+ghost use Rattle.std.specs.Prelude.{◌≡◌, ℕ, ◌+◌, ◌*◌, ◌/◌, ◌^◌, ◌<◌};
 ghost use Rattle.isa.specs.Widths.{bits};
 ghost use Rattle.element.specs.Elements.{Element};
 ghost use Rattle.memory.specs.Value.{value, register};
@@ -57,6 +57,33 @@ pub fn joined(w: Width, x: u64, e: u64) -> u64
         Width::H => x * 0x1_0000 + e,
         Width::W => x * 0x1_0000_0000 + e,
         Width::D => e,
+    }
+}
+
+// The word whose element i is f(w, i), made from the top element down.
+fn in_turn<F: Fn(Width, u64) -> u64>(w: Width, f: F) -> u64
+    requires calls { (i : ℕ) → i < 64 / bits w → F.pre f w i }
+    requires fits { (i e : ℕ) → i < 64 / bits w → F.post f w i e → e < 2 ^ bits w }
+    ensures { (i : ℕ) → i < 64 / bits w → F.post f w i (element (bits w) result i) }
+{
+    let mut out = 0;
+    for i in (0..per_word(w)).rev() {
+        out = joined(w, out, f(w, i));
+    }
+    out
+}
+
+// The same, with the width a literal at each loop, so that the compiler unrolls it.
+pub fn built<F: Fn(Width, u64) -> u64>(w: Width, f: F) -> u64
+    requires calls { (i : ℕ) → i < 64 / bits w → F.pre f w i }
+    requires fits { (i e : ℕ) → i < 64 / bits w → F.post f w i e → e < 2 ^ bits w }
+    ensures { (i : ℕ) → i < 64 / bits w → F.post f w i (element (bits w) result i) }
+{
+    match w {
+        Width::B => in_turn(Width::B, f),
+        Width::H => in_turn(Width::H, f),
+        Width::W => in_turn(Width::W, f),
+        Width::D => in_turn(Width::D, f),
     }
 }
 

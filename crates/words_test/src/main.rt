@@ -4,22 +4,20 @@
 
 mod built;
 
-use crate::built::{half_of, instr_of};
+use crate::built::instr_of;
 use line_writer::write_line;
 use std::io;
 use streams::read_full;
 use writing::write_word;
 
-// Decode, encode and skipped cases, first of the random files and then of the corners; the last are encode cases of our
-// own.
 #[derive(Clone, Copy)]
-struct Tally {
-    agree: [u64; 8],
-    cases: [u64; 8],
+struct Count {
+    agree: u64,
+    cases: u64,
 }
 
 fn word_of(r: [u8; 32]) -> u32 {
-    half_of(r[1], r[2]) as u32 + half_of(r[3], r[4]) as u32 * 65536
+    u32::from_le_bytes([r[1], r[2], r[3], r[4]])
 }
 
 // The line's text stands behind its address and its word.
@@ -38,60 +36,48 @@ fn encodes(r: [u8; 32]) -> bool {
     }
 }
 
-fn counted(n: u64, yes: bool) -> u64 {
-    if yes { n.wrapping_add(1) } else { n }
+// Of decode, encode and skipped cases, first of the random files and then of the corners; the last are encode cases of
+// our own.
+fn tally(counts: &mut [Count; 8], r: [u8; 32]) {
+    let k = usize::from(r[0] % 8);
+    let agrees = match k % 3 {
+        0 => decodes(r),
+        1 => encodes(r),
+        _ => false,
+    };
+    let count = &mut counts[k];
+    count.cases = count.cases.wrapping_add(1);
+    count.agree = count.agree.wrapping_add(u64::from(agrees));
 }
 
-fn tallied(t: Tally, r: [u8; 32]) -> Tally {
-    let mut agree = t.agree;
-    let mut cases = t.cases;
-    let k = (r[0] % 8) as usize;
-    cases[k] = counted(cases[k], true);
-    if k % 3 == 0 {
-        agree[k] = counted(agree[k], decodes(r));
-    }
-    if k % 3 == 1 {
-        agree[k] = counted(agree[k], encodes(r));
-    }
-    Tally { agree, cases }
-}
-
-fn line(rt: &impl Print, name: &[u8], agree: u64, cases: u64) -> io::Result<()> {
-    rt.write_all(name)?;
-    println!(rt; "{agree} of {cases} agree")
+fn line(rt: &impl Print, name: &str, count: Count) -> io::Result<()> {
+    let Count { agree, cases } = count;
+    println!(rt; "{name}: {agree} of {cases} agree")
 }
 
 fn skipped(rt: &impl Print, cases: u64) -> io::Result<()> {
     println!(rt; "{cases} encode cases have a format or a number that no Instr holds")
 }
 
-fn report(rt: &impl Print, t: Tally) -> io::Result<()> {
-    let agree = t.agree;
-    let cases = t.cases;
-    line(rt, b"decode: ", agree[0], cases[0])?;
-    line(rt, b"encode: ", agree[1], cases[1])?;
-    skipped(rt, cases[2])?;
-    line(rt, b"corners, decode: ", agree[3], cases[3])?;
-    line(rt, b"corners, encode: ", agree[4], cases[4])?;
-    skipped(rt, cases[5])?;
-    line(rt, b"refused of our own: ", agree[7], cases[7])
+fn report(rt: &impl Print, counts: [Count; 8]) -> io::Result<()> {
+    line(rt, "decode", counts[0])?;
+    line(rt, "encode", counts[1])?;
+    skipped(rt, counts[2].cases)?;
+    line(rt, "corners, decode", counts[3])?;
+    line(rt, "corners, encode", counts[4])?;
+    skipped(rt, counts[5].cases)?;
+    line(rt, "refused of our own", counts[7])
 }
 
 fn main(rt: HostRuntime) -> io::Result<()> {
     let mut input = rt.reader();
-    let mut t = Tally {
-        agree: [0; 8],
-        cases: [0; 8],
-    };
-    let mut turns: u32 = 1000000;
-    while 0 < turns {
-        turns -= 1;
-        let mut r = [0u8; 32];
+    let mut counts = [Count { agree: 0, cases: 0 }; 8];
+    for _ in 0..1000000 {
+        let mut r = [0; 32];
         if read_full(&mut input, &mut r)? < 32 {
-            turns = 0;
-        } else {
-            t = tallied(t, r);
+            break;
         }
+        tally(&mut counts, r);
     }
-    report(&rt, t)
+    report(&rt, counts)
 }

@@ -6,9 +6,6 @@ use borrow.Author.Rules.{rules}
 use native.Mathlib.Omega.{arith}
 use Rattle.element.proofs.flip.Goals as goal
 
-pub overflow_add-result : goal.overflow_add-result
-overflow_add-result c = let a = c.args in omega (arith, size a.w)
-
 pub returns-then-x-h : goal.returns-then-x-h
 returns-then-x-h c = let a = c.args in
     let e = flip_up (bits a.w) a.x (omega arith) in

@@ -16,6 +16,3 @@ pub returns-else-x-half : goal.returns-else-x-half
 returns-else-x-half c = let a = c.args in
     let e = magnitude-high (bits a.w) (size a.w) {x = a.x} (omega arith) (omega arith) in
     record { is = omega arith; below = omega (arith, size a.w) }
-
-pub overflow_add-result : goal.overflow_add-result
-overflow_add-result c = omega (arith, size c.args.w)

@@ -1,8 +1,5 @@
--- `mnemonics::put_name` meets its contract.
-use mathlib.Core.Path.{◌≡◌, sym, ap, ◌∙◌}
-use Prim.Native.Nat.{ℕ, ◌+◌, ◌-◌, ◌*◌, ◌/◌, ◌%◌, ◌<◌}
-use native.Mathlib.Omega.{arith}
-use lib.ListN.{length, take, drop}
+-- `mnemonics::put_name` meets its contract: the part of the text that is the name, as long as the digit before it says.
+use Rattle.std.proofs.Common.{◌≡◌, ◌+◌, ◌-◌, ◌*◌, ◌/◌, ◌%◌, ◌<◌, ◌≤◌, ℕ, arith, rules, get_or, length, take, drop, sym, ap, ◌∙◌}
 use Rattle.text.proofs.Puts.{puts_none, puts-as, room_as}
 use Rattle.ops.specs.Table.{row_at, mnemonic}
 use Rattle.ops.proofs.Names.{name-short}
@@ -10,33 +7,38 @@ use Rattle.mnemonics.specs.Lines.{line_of}
 use Rattle.mnemonics.proofs.Names.{stored, digit, part, no_name}
 use Rattle.mnemonics.proofs.put_name.Goals as goal
 
--- the part of the text that is the name, its length as the digit says
-named : (k row n : ℕ) → row ≡ line_of (k / 8) → row < 27 → n ≡ 48 + length (mnemonic k)
-    → take (n - 48) (drop (9 * (8 * row + k % 8) + 1) stored) ≡ mnemonic k
-named k row n l h e =
-    let q : n - 48 ≡ length (mnemonic k) = omega (arith, e) in
-    ap (λ (m : ℕ). take m (drop (9 * (8 * row + k % 8) + 1) stored)) q ∙ part k row l h
+-- the digit before the name, and the name
+module _ (k row : ℕ) (l : row ≡ line_of (k / 8)) (h : row < 27) where
+  abbrev byte : ℕ
+  byte = get_or stored (9 * (8 * row + k % 8)) 0
 
-pub returns-then-row-gt26 : goal.returns-then-row-gt26
-unfolding row_at
-returns-then-row-gt26 c = puts-as (no_name _ _ c.line_of-row.ensures (omega arith)) (puts_none _ _)
+  at_least : 48 ≤ byte
+  at_least = omega (arith, digit k row l h)
 
-pub overflow_sub-n : goal.overflow_sub-n
+  module _ {n : ℕ} (e : n ≡ byte - 48) where
+    long : n ≡ length (mnemonic k)
+    long = omega (arith, e, digit k row l h)
+
+    named : take n (drop (9 * (8 * row + k % 8) + 1) stored) ≡ mnemonic k
+    named = ap (λ (m : ℕ). take m (drop (9 * (8 * row + k % 8) + 1) stored)) long ∙ part k row l h
+
+    inside : 9 * (8 * row + k % 8) + 1 + n ≤ 1944
+    inside = omega (arith, long, name-short k)
+
+pub returns-in_default : goal.returns-in_default
+returns-in_default c = puts-as (no_name c.args.k 27 (sym (search rules)) (omega arith)) (puts_none _ _)
+
+pub overflow_sub-text : goal.overflow_sub-text
 unfolding row_at
-overflow_sub-n c = let l = c.line_of-row.ensures in
-    omega (arith, c.wide-n.ensures ∙ digit _ _ l (omega arith))
+overflow_sub-text c = at_least c.args.k c.in-Some.row c.in-Some.ensures.0 c.in-Some.ensures.1
 
 pub put_part-requires : goal.put_part-requires
 unfolding row_at
-put_part-requires c = let start = c in
-    let k = start.args.k in
-    let l = c.line_of-row.ensures in
-    let e = c.wide-n.ensures ∙ digit k _ l (omega arith) in
-    (omega (arith, e, name-short k), room_as (sym (named k _ _ l (omega arith) e)) start.requires)
+put_part-requires c =
+    let l = c.in-Some.ensures.0 in
+    let h = c.in-Some.ensures.1 in
+    (inside c.args.k c.in-Some.row l h c.from-n.ensures, room_as (sym (named c.args.k c.in-Some.row l h c.from-n.ensures)) c.requires)
 
 pub returns : goal.returns
 unfolding row_at
-returns c = let a = c.args in
-    let l = c.line_of-row.ensures in
-    let e = c.wide-n.ensures ∙ digit a.k _ l (omega arith) in
-    puts-as (named a.k _ _ l (omega arith) e) c.put_part.ensures
+returns c = puts-as (named c.args.k c.in-Some.row c.in-Some.ensures.0 c.in-Some.ensures.1 c.from-n.ensures) c.put_part.ensures

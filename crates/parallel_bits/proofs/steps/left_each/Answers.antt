@@ -1,19 +1,7 @@
--- `parallel_bits::steps::left_each` meets its contract. Bytes go in steps (Barrel), other elements one by one.
-use borrow.Author.Rules.{rules}
-use Prim.Native.Nat.{◌%◌}
-use Rattle.bits.specs.Shifts.{sll}
-use Rattle.parallel.proofs.Named.{at-width2}
-use Rattle.parallel_bits.proofs.Barrel.{to-left, bytes}
+-- `parallel_bits::steps::left_each` meets its contract. Elements but bytes go one by one.
+use Rattle.std.proofs.Common.{rules, arith}
+use Rattle.parallel_bits.proofs.Amounts.{sll-cut}
 use Rattle.parallel_bits.proofs.steps.left_each.Goals as goal
 
-pub returns-in-B : goal.returns-in-B
-returns-in-B c = bytes (to-left _) _ _ c.left_mod_8.ensures c.in-B.is
-
-pub returns-in-H : goal.returns-in-H
-returns-in-H c = search (rules, at-width2 (λ n a b. sll n a (b % n)))
-
-pub returns-in-W : goal.returns-in-W
-returns-in-W c = search (rules, at-width2 (λ n a b. sll n a (b % n)))
-
-pub returns-in-D : goal.returns-in-D
-returns-in-D c = search (rules, at-width2 (λ n a b. sll n a (b % n)))
+pub returns-in_default : goal.returns-in_default
+returns-in_default c = record { below = search rules; at = λ i l. let e = c.built.ensures i l in grind (arith, sll-cut) }

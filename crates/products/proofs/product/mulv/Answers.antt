@@ -7,4 +7,4 @@ use Rattle.products.proofs.product.mulv.Goals as goal
 pub returns : goal.returns
 unfolding mulv
 returns c = let a = c.args in
-    c.low.ensures ∙ rw c.mul64.ensures (low-low a.w (a.s * a.t))
+    c.low.ensures ∙ (low-low a.w (a.s * a.t))
