@@ -43,8 +43,7 @@ pub fn finished(c: Control) -> Stepped
 }
 
 // The address of a load or a store.
-fn address_of(e: u64, generals: &[u8]) -> u64
-    requires { length generals.now ≡ 256 }
+fn address_of(e: u64, generals: &[u8; 256]) -> u64
     ensures { result ≡ (general_at generals.now (greg (source_of e)) + extended_of e) % 2 ^ 64 }
 {
     wrapping_add_u64(moves::general(generals, Greg(source_of(e))), extended(e))
@@ -55,11 +54,10 @@ fn load(
     a: u64,
     board: Board,
     table: &[u8],
-    vectors: &mut [u8],
+    vectors: &mut [u8; 512],
     work: &[u8],
     c: Control,
 ) -> Stepped
-    requires { length vectors.old ≡ 512 }
     ensures { (g : List ℕ) → StepIs (concluded board.work (accessed Ld (width_of e) board table.now
         vectors.old work.now (vreg (dest_of e)) a)
         (machine vectors.old g work.now c))
@@ -86,11 +84,10 @@ fn store(
     a: u64,
     board: Board,
     table: usize,
-    vectors: &[u8],
+    vectors: &[u8; 512],
     work: &mut [u8],
     c: Control,
 ) -> Stepped
-    requires { length vectors.now ≡ 512 }
     ensures { (t g : List ℕ) → table ≡ length t → StepIs (concluded board.work
         (accessed St (width_of e) board t vectors.now work.old (vreg (dest_of e)) a)
         (machine vectors.now g work.old c))
@@ -109,8 +106,7 @@ fn store(
 }
 
 // LSA and DLSA.
-pub fn summed(op: Scaled, e: u64, generals: &mut [u8], c: Control) -> Stepped
-    requires { length generals.old ≡ 256 }
+pub fn summed(op: Scaled, e: u64, generals: &mut [u8; 256], c: Control) -> Stepped
     ensures { (b : ℕ) (v w : List ℕ) → let m = machine v generals.old w c in
         StepIs (concluded b (sum_in m e (scaled_of op)) m) result v generals.new w }
 {
@@ -122,8 +118,7 @@ pub fn summed(op: Scaled, e: u64, generals: &mut [u8], c: Control) -> Stepped
 }
 
 // The register that a branch looks at.
-fn last(e: u64, vectors: &[u8]) -> Register
-    requires { length vectors.now ≡ 512 }
+fn last(e: u64, vectors: &[u8; 512]) -> Register
     ensures { Holds result (register_at vectors.now (vreg (third_of e))) }
 {
     read_register(vectors, Vreg(third_of(e)))
@@ -152,12 +147,12 @@ pub fn common(
     e: u64,
     board: Board,
     table: &[u8],
-    vectors: &mut [u8],
-    generals: &mut [u8],
+    vectors: &mut [u8; 512],
+    generals: &mut [u8; 256],
     work: &mut [u8],
     c: Control,
 ) -> Stepped
-    requires { (length vectors.old ≡ 512) × (length generals.old ≡ 256) × (code_of e < 8) × (c.on ≡ true) }
+    requires { (code_of e < 8) × (c.on ≡ true) }
     ensures { let m = machine vectors.old generals.old work.old c in
         StepIs (concluded board.work (plan_at (env board table.now) m e) m)
         result vectors.new generals.new work.new }

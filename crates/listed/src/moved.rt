@@ -10,8 +10,7 @@ use plan::moves::copied;
 use plan::{Plan, moves};
 use state::control::Control;
 
-pub fn moved(e: u64, vectors: &[u8], generals: &[u8], c: Control) -> Plan
-    requires { (length vectors.now ≡ 512) × (length generals.now ≡ 256) }
+pub fn moved(e: u64, vectors: &[u8; 512], generals: &[u8; 256], c: Control) -> Plan
     ensures { (w : List ℕ) → result ≡ move_of (machine vectors.now generals.now w c) e }
 {
     let g = Greg(dest_of(e));

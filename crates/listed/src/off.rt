@@ -31,8 +31,8 @@ fn early_at(k: u64, mark: Mark) -> Result<(), Stop>
     }
 }
 
-fn off(e: u64, generals: &mut [u8], c: Control) -> Stepped
-    requires { (length generals.old ≡ 256) × (c.on ≡ false) }
+fn off(e: u64, generals: &mut [u8; 256], c: Control) -> Stepped
+    requires { c.on ≡ false }
     ensures { (n : Env) (v w : List ℕ) → let m = machine v generals.old w c in
         StepIs (concluded n.board.work (plan_at n m e) m) result v generals.new w }
 {
@@ -55,11 +55,11 @@ pub fn turns_off(
     board: Board,
     list: &[u64],
     words: u64,
-    generals: &mut [u8],
+    generals: &mut [u8; 256],
     c: Control,
     budget: u32,
 ) -> Ended
-    requires { (length generals.old ≡ 256) × (words ≤ length list.now) × (c.on ≡ false) }
+    requires { (words ≤ length list.now) × (c.on ≡ false) }
     ensures { (program t v w : List ℕ) → Reads board.program words program list.now
         → RunIs (runs program (env board t) budget (machine v generals.old w c))
         result v generals.new w }

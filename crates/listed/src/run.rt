@@ -18,15 +18,14 @@ fn accepted(
     board: Board,
     program: &[u8],
     table: &[u8],
-    vectors: &mut [u8],
-    generals: &mut [u8],
+    vectors: &mut [u8; 512],
+    generals: &mut [u8; 256],
     work: &mut [u8],
     c: Control,
     list: &mut [u64],
     budget: u32,
 ) -> Option<Ended>
-    requires { (length vectors.old ≡ 512) × (length generals.old ≡ 256)
-        × Stands board.program program.now }
+    requires { Stands board.program program.now }
     ensures { ListedIs (accepted_run program.now (env board table.now) budget
         (machine vectors.old generals.old work.old c) list.old)
         result vectors.new generals.new work.new list.new }
@@ -77,6 +76,9 @@ pub fn run(
             control: c,
         });
     }
+    let (Some(vectors), Some(generals)) = (vectors.as_mut_array(), generals.as_mut_array()) else {
+        unreachable!()
+    };
     accepted(
         board, program, table, vectors, generals, work, c, list, budget,
     )

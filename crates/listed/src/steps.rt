@@ -30,8 +30,8 @@ use values::seldom::seldom;
 use values::shuffles::shuffled;
 
 // Codes 8 to 55.
-pub fn quick(e: u64, vectors: &mut [u8], c: Control) -> Stepped
-    requires { (length vectors.old ≡ 512) × (8 ≤ code_of e) × (code_of e < 56) × (c.on ≡ true) }
+pub fn quick(e: u64, vectors: &mut [u8; 512], c: Control) -> Stepped
+    requires { (8 ≤ code_of e) × (code_of e < 56) × (c.on ≡ true) }
     ensures { (n : Env) (g w : List ℕ) → let m = machine vectors.old g w c in
         StepIs (concluded n.board.work (plan_at n m e) m) result vectors.new g w }
 {
@@ -43,8 +43,8 @@ pub fn quick(e: u64, vectors: &mut [u8], c: Control) -> Stepped
 }
 
 // What the codes 56 to 104 make. VSHF, code 80, reads no more than it chooses.
-fn made(e: u64, vectors: &[u8], generals: &[u8]) -> Register
-    requires { (length vectors.now ≡ 512) × (length generals.now ≡ 256) × (56 ≤ code_of e) × (code_of e < 105) }
+fn made(e: u64, vectors: &[u8; 512], generals: &[u8; 256]) -> Register
+    requires { (56 ≤ code_of e) × (code_of e < 105) }
     ensures { (n : Env) (w : List ℕ) (c : Control) → executed_at n
         (machine vectors.now generals.now w c) e ≡ plan.Vector (vreg (dest_of e)) result }
 {
@@ -60,8 +60,8 @@ fn made(e: u64, vectors: &[u8], generals: &[u8]) -> Register
     other(e, vectors, generals)
 }
 
-fn vector(e: u64, vectors: &mut [u8], generals: &[u8], c: Control) -> Stepped
-    requires { (length vectors.old ≡ 512) × (length generals.now ≡ 256) × (56 ≤ code_of e) × (code_of e < 105)
+fn vector(e: u64, vectors: &mut [u8; 512], generals: &[u8; 256], c: Control) -> Stepped
+    requires { (56 ≤ code_of e) × (code_of e < 105)
         × (c.on ≡ true) }
     ensures { (n : Env) (w : List ℕ) → let m = machine vectors.old generals.now w c in
         StepIs (concluded n.board.work (plan_at n m e) m) result vectors.new generals.now w }
@@ -75,12 +75,12 @@ fn vector(e: u64, vectors: &mut [u8], generals: &[u8], c: Control) -> Stepped
 fn rest(
     e: u64,
     board: Board,
-    vectors: &mut [u8],
-    generals: &mut [u8],
+    vectors: &mut [u8; 512],
+    generals: &mut [u8; 256],
     work: &mut [u8],
     c: Control,
 ) -> Stepped
-    requires { (length vectors.old ≡ 512) × (length generals.old ≡ 256) × (105 ≤ code_of e) × (c.on ≡ true) }
+    requires { (105 ≤ code_of e) × (c.on ≡ true) }
     ensures { (t : List ℕ) →
         let m = machine vectors.old generals.old work.old c in
         StepIs (concluded board.work (plan_at (env board t) m e) m)
@@ -98,12 +98,12 @@ fn rest(
 pub fn slow(
     e: u64,
     board: Board,
-    vectors: &mut [u8],
-    generals: &mut [u8],
+    vectors: &mut [u8; 512],
+    generals: &mut [u8; 256],
     work: &mut [u8],
     c: Control,
 ) -> Stepped
-    requires { (length vectors.old ≡ 512) × (length generals.old ≡ 256) × (56 ≤ code_of e) × (c.on ≡ true) }
+    requires { (56 ≤ code_of e) × (c.on ≡ true) }
     ensures { (t : List ℕ) →
         let m = machine vectors.old generals.old work.old c in
         StepIs (concluded board.work (plan_at (env board t) m e) m)

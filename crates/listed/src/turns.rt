@@ -20,13 +20,13 @@ pub fn turns(
     list: &[u64],
     words: u64,
     table: &[u8],
-    vectors: &mut [u8],
-    generals: &mut [u8],
+    vectors: &mut [u8; 512],
+    generals: &mut [u8; 256],
     work: &mut [u8],
     c: Control,
     budget: u32,
 ) -> Ended
-    requires { (length vectors.old ≡ 512) × (length generals.old ≡ 256) × (words ≤ length list.now)
+    requires { (words ≤ length list.now)
         × (c.on ≡ true) }
     ensures { (program : List ℕ) → Reads board.program words program list.now
         → RunIs (runs program (env board table.now) budget

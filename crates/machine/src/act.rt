@@ -17,13 +17,12 @@ use state::control::Control;
 pub fn conclude(
     p: Plan,
     board: Board,
-    vectors: &mut [u8],
-    generals: &mut [u8],
+    vectors: &mut [u8; 512],
+    generals: &mut [u8; 256],
     work: &mut [u8],
     c: Control,
 ) -> Stepped
-    requires { (length vectors.old ≡ 512) × (length generals.old ≡ 256)
-        × There board.work (length work.old) p }
+    requires { There board.work (length work.old) p }
     ensures { StepIs (concluded board.work p
         (machine vectors.old generals.old work.old c))
         result vectors.new generals.new work.new }
@@ -40,12 +39,12 @@ pub fn act(
     i: Instr,
     board: Board,
     table: &[u8],
-    vectors: &mut [u8],
-    generals: &mut [u8],
+    vectors: &mut [u8; 512],
+    generals: &mut [u8; 256],
     work: &mut [u8],
     c: Control,
 ) -> Stepped
-    requires { (length vectors.old ≡ 512) × (length generals.old ≡ 256) × Formed i }
+    requires { Formed i }
     ensures { StepIs (decided (Ok i) (env board table.now)
         (machine vectors.old generals.old work.old c))
         result vectors.new generals.new work.new }

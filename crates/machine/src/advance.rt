@@ -38,12 +38,11 @@ pub fn advance(
     board: Board,
     program: &[u8],
     table: &[u8],
-    vectors: &mut [u8],
-    generals: &mut [u8],
+    vectors: &mut [u8; 512],
+    generals: &mut [u8; 256],
     work: &mut [u8],
     c: Control,
 ) -> Stepped
-    requires { (length vectors.old ≡ 512) × (length generals.old ≡ 256) }
     ensures { StepIs (step_of program.now (env board table.now) (machine vectors.old generals.old work.old c)) result vectors.new generals.new work.new }
 {
     let Some(w) = fetch::word_at(program, board.program, c.pc) else {

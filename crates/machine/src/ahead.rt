@@ -15,11 +15,10 @@ pub fn end_of(
     board: Board,
     program: &[u8],
     table: &[u8],
-    generals: &[u8],
+    generals: &[u8; 256],
     work: &[u8],
     c: Control,
 ) -> Result<(), Stop>
-    requires { length generals.now ≡ 256 }
     ensures { result ≡ end_of program.now board table.now generals.now
         work.now c }
 {

@@ -10,8 +10,8 @@ use plan::Plan;
 use state::control::{Control, Mark};
 
 // Writes general register r; a write to register 0 is dropped.
-pub fn write_general(generals: &mut [u8], r: Greg, x: u64)
-    requires { (length generals.old ≡ 256) × (r.0 < 32) }
+pub fn write_general(generals: &mut [u8; 256], r: Greg, x: u64)
+    requires { r.0 < 32 }
     ensures { generals.new ≡ with_general generals.old r x }
 {
     if r.0 != 0 {
@@ -20,8 +20,8 @@ pub fn write_general(generals: &mut [u8], r: Greg, x: u64)
 }
 
 // Does what the plan says to the lent memory; the work window begins at base.
-pub fn apply(p: Plan, base: u64, vectors: &mut [u8], generals: &mut [u8], work: &mut [u8])
-    requires { (length vectors.old ≡ 512) × (length generals.old ≡ 256) × There base (length work.old) p }
+pub fn apply(p: Plan, base: u64, vectors: &mut [u8; 512], generals: &mut [u8; 256], work: &mut [u8])
+    requires { There base (length work.old) p }
     ensures vectors_after { vectors.new ≡ vectors_after p vectors.old }
     ensures generals_after { generals.new ≡ generals_after p generals.old }
     ensures work_after { work.new ≡ work_after p base work.old }

@@ -52,6 +52,9 @@ pub fn step(
             control: c,
         };
     }
+    let (Some(vectors), Some(generals)) = (vectors.as_mut_array(), generals.as_mut_array()) else {
+        unreachable!()
+    };
     let e = turns(board, program, table, vectors, generals, work, c, 1);
     ran(as_step(e))
 }

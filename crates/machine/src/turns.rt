@@ -15,13 +15,12 @@ pub fn turns(
     board: Board,
     program: &[u8],
     table: &[u8],
-    vectors: &mut [u8],
-    generals: &mut [u8],
+    vectors: &mut [u8; 512],
+    generals: &mut [u8; 256],
     work: &mut [u8],
     c: Control,
     budget: u32,
 ) -> Ended
-    requires { (length vectors.old ≡ 512) × (length generals.old ≡ 256) }
     ensures { RunIs (runs program.now (env board table.now) budget
         (machine vectors.old generals.old work.old c))
         result vectors.new generals.new work.new }

@@ -66,11 +66,10 @@ fn next(
     program: &[u8],
     table: &[u8],
     vectors: &[u8],
-    generals: &[u8],
+    generals: &[u8; 256],
     work: &[u8],
     c: Control,
 ) -> Cause
-    requires { length generals.now ≡ 256 }
     ensures { result ≡ next_of program.now (env board table.now)
         (machine vectors.now generals.now work.now c) }
 {
@@ -99,5 +98,8 @@ pub fn why(
             fact: 0,
         };
     }
+    let Some(generals) = generals.as_array() else {
+        unreachable!()
+    };
     next(board, program, table, vectors, generals, work, c)
 }

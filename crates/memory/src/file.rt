@@ -7,8 +7,7 @@ use crate::Register;
 use isa::Vreg;
 
 // A number past 31 names no register: no byte stands there, and the value is 0.
-pub fn read_register(file: &[u8], r: Vreg) -> Register
-    requires { length file.now ≡ 512 }
+pub fn read_register(file: &[u8; 512], r: Vreg) -> Register
     ensures { Holds result (register_at file.now r) }
 {
     if 31 < r.0 {
@@ -19,8 +18,8 @@ pub fn read_register(file: &[u8], r: Vreg) -> Register
 }
 
 // Writes v as register r, and no other byte.
-pub fn write_register(file: &mut [u8], r: Vreg, v: Register)
-    requires { (length file.old ≡ 512) × (r.0 < 32) }
+pub fn write_register(file: &mut [u8; 512], r: Vreg, v: Register)
+    requires { r.0 < 32 }
     ensures { file.new ≡ with_register file.old r (value v) }
 {
     let n = r.0 as usize;

@@ -50,11 +50,11 @@ pub fn stop_ahead(
     a: Ahead,
     board: Board,
     table: usize,
-    generals: &[u8],
+    generals: &[u8; 256],
     work: usize,
     c: Control,
 ) -> Result<(), Stop>
-    requires { (length generals.now ≡ 256) × Within a }
+    requires { Within a }
     ensures { result ≡ stop_ahead a board table generals.now work c }
 {
     match a {

@@ -22,8 +22,7 @@ pub fn mark_of(taken: bool, to: u64) -> Mark
     }
 }
 
-pub fn branch(op: Zero, df: Width, wt: Vreg, offset: u16, vectors: &[u8], pc: u64) -> Plan
-    requires { length vectors.now ≡ 512 }
+pub fn branch(op: Zero, df: Width, wt: Vreg, offset: u16, vectors: &[u8; 512], pc: u64) -> Plan
     ensures { result ≡ Plan.Branch (marked (taken_of op df (register_at vectors.now wt))
         (target pc offset)) }
 {
@@ -31,8 +30,7 @@ pub fn branch(op: Zero, df: Width, wt: Vreg, offset: u16, vectors: &[u8], pc: u6
     Plan::Branch(mark_of(is, target_of(pc, offset)))
 }
 
-pub fn branch_v(op: Zero, wt: Vreg, offset: u16, vectors: &[u8], pc: u64) -> Plan
-    requires { length vectors.now ≡ 512 }
+pub fn branch_v(op: Zero, wt: Vreg, offset: u16, vectors: &[u8; 512], pc: u64) -> Plan
     ensures { result ≡ Plan.Branch (marked (taken_vof op (register_at vectors.now wt))
         (target pc offset)) }
 {

@@ -19,8 +19,7 @@ use state::stops::Stop;
 use state::windows::{Spot, locate};
 
 // A number past 31 names no register: its value is 0.
-pub fn general(generals: &[u8], r: Greg) -> u64
-    requires { length generals.now ≡ 256 }
+pub fn general(generals: &[u8; 256], r: Greg) -> u64
     ensures { result ≡ general_at generals.now r }
 {
     if 31 < r.0 {
@@ -39,8 +38,7 @@ pub fn copied(op: Copied, df: Width, s: Register, n: u64) -> u64
     }
 }
 
-pub fn copy(op: Copied, df: Width, rd: Greg, ws: Vreg, n: u8, vectors: &[u8]) -> Plan
-    requires { length vectors.now ≡ 512 }
+pub fn copy(op: Copied, df: Width, rd: Greg, ws: Vreg, n: u8, vectors: &[u8; 512]) -> Plan
     ensures { result ≡ Plan.General rd (copy_of op df (register_at vectors.now ws) n) }
 {
     Plan::General(rd, copied(op, df, read_register(vectors, ws), n as u64))
@@ -88,9 +86,8 @@ pub fn store(
     board: Board,
     table: usize,
     work: usize,
-    vectors: &[u8],
+    vectors: &[u8; 512],
 ) -> Plan
-    requires { length vectors.now ≡ 512 }
     ensures { result ≡ stored (spot_of board table work a) board.order df a
         (register_at vectors.now wd) }
 {
@@ -110,10 +107,9 @@ pub fn access(
     a: u64,
     board: Board,
     table: &[u8],
-    vectors: &[u8],
+    vectors: &[u8; 512],
     work: &[u8],
 ) -> Plan
-    requires { length vectors.now ≡ 512 }
     ensures { result ≡ accessed op df board table.now vectors.now work.now wd a }
 {
     match op {

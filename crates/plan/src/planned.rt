@@ -68,12 +68,12 @@ fn execute(
     i: Instr,
     board: Board,
     table: &[u8],
-    vectors: &[u8],
-    generals: &[u8],
+    vectors: &[u8; 512],
+    generals: &[u8; 256],
     work: &[u8],
     c: Control,
 ) -> Plan
-    requires { (length vectors.now ≡ 512) × (length generals.now ≡ 256) × Formed i }
+    requires { Formed i }
     ensures { result ≡ executed (env board table.now)
         (machine vectors.now generals.now work.now c) i }
 {
@@ -163,12 +163,12 @@ pub fn plan_of(
     i: Instr,
     board: Board,
     table: &[u8],
-    vectors: &[u8],
-    generals: &[u8],
+    vectors: &[u8; 512],
+    generals: &[u8; 256],
     work: &[u8],
     c: Control,
 ) -> Plan
-    requires { (length vectors.now ≡ 512) × (length generals.now ≡ 256) × Formed i }
+    requires { Formed i }
     ensures { result ≡ plan_of (env board table.now)
         (machine vectors.now generals.now work.now c) i }
 {

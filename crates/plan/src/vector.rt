@@ -13,8 +13,7 @@ use crate::Plan;
 use isa::{Arith, BitOp, Count, Fixed, Indexed, Logic, Three, Vreg, Width};
 use memory::file::read_register;
 
-pub fn three(op: Three, df: Width, wd: Vreg, ws: Vreg, wt: Vreg, vectors: &[u8]) -> Plan
-    requires { length vectors.now ≡ 512 }
+pub fn three(op: Three, df: Width, wd: Vreg, ws: Vreg, wt: Vreg, vectors: &[u8; 512]) -> Plan
     ensures { result ≡ writes wd (three_of op (bits df) (register_at vectors.now wd)
         (register_at vectors.now ws) (register_at vectors.now wt)) }
 {
@@ -24,8 +23,8 @@ pub fn three(op: Three, df: Width, wd: Vreg, ws: Vreg, wt: Vreg, vectors: &[u8])
     Plan::Vector(wd, forms::three(op, df, d, s, t))
 }
 
-pub fn fixed(op: Fixed, df: Width, wd: Vreg, ws: Vreg, wt: Vreg, vectors: &[u8]) -> Plan
-    requires { (length vectors.now ≡ 512) × (bits df ≤ 32) }
+pub fn fixed(op: Fixed, df: Width, wd: Vreg, ws: Vreg, wt: Vreg, vectors: &[u8; 512]) -> Plan
+    requires { bits df ≤ 32 }
     ensures { result ≡ writes wd (fixed_of op (bits df) (register_at vectors.now wd)
         (register_at vectors.now ws) (register_at vectors.now wt)) }
 {
@@ -35,8 +34,7 @@ pub fn fixed(op: Fixed, df: Width, wd: Vreg, ws: Vreg, wt: Vreg, vectors: &[u8])
     Plan::Vector(wd, forms::fixed(op, df, d, s, t))
 }
 
-pub fn indexed(op: Indexed, df: Width, wd: Vreg, ws: Vreg, x: u64, vectors: &[u8]) -> Plan
-    requires { length vectors.now ≡ 512 }
+pub fn indexed(op: Indexed, df: Width, wd: Vreg, ws: Vreg, x: u64, vectors: &[u8; 512]) -> Plan
     ensures { result ≡ writes wd (indexed_of op (bits df) (register_at vectors.now wd)
         (register_at vectors.now ws) x) }
 {
@@ -46,8 +44,7 @@ pub fn indexed(op: Indexed, df: Width, wd: Vreg, ws: Vreg, x: u64, vectors: &[u8
 }
 
 // ELM, by the index n. It does not call `indexed`: a function with two callers takes its slices through memory.
-pub fn element(op: Indexed, df: Width, wd: Vreg, ws: Vreg, n: u8, vectors: &[u8]) -> Plan
-    requires { length vectors.now ≡ 512 }
+pub fn element(op: Indexed, df: Width, wd: Vreg, ws: Vreg, n: u8, vectors: &[u8; 512]) -> Plan
     ensures { result ≡ writes wd (indexed_of op (bits df) (register_at vectors.now wd)
         (register_at vectors.now ws) n) }
 {
@@ -58,8 +55,7 @@ pub fn element(op: Indexed, df: Width, wd: Vreg, ws: Vreg, n: u8, vectors: &[u8]
     )
 }
 
-pub fn imm5(op: Arith, signed: bool, df: Width, wd: Vreg, ws: Vreg, imm: u8, vectors: &[u8]) -> Plan
-    requires { length vectors.now ≡ 512 }
+pub fn imm5(op: Arith, signed: bool, df: Width, wd: Vreg, ws: Vreg, imm: u8, vectors: &[u8; 512]) -> Plan
     ensures { result ≡ writes wd (imm5_of op signed (bits df) (register_at vectors.now ws) imm) }
 {
     Plan::Vector(
@@ -74,8 +70,7 @@ pub fn ldi(df: Width, wd: Vreg, imm: u16) -> Plan
     Plan::Vector(wd, permute::moves::ldi(df, imm))
 }
 
-pub fn bit(op: BitOp, df: Width, wd: Vreg, ws: Vreg, m: u8, vectors: &[u8]) -> Plan
-    requires { length vectors.now ≡ 512 }
+pub fn bit(op: BitOp, df: Width, wd: Vreg, ws: Vreg, m: u8, vectors: &[u8; 512]) -> Plan
     ensures { result ≡ writes wd (bit_of op (bits df) (register_at vectors.now wd)
         (register_at vectors.now ws) m) }
 {
@@ -84,8 +79,7 @@ pub fn bit(op: BitOp, df: Width, wd: Vreg, ws: Vreg, m: u8, vectors: &[u8]) -> P
     Plan::Vector(wd, forms::bit(op, df, d, s, m))
 }
 
-pub fn imm8(op: Logic, wd: Vreg, ws: Vreg, imm: u8, vectors: &[u8]) -> Plan
-    requires { length vectors.now ≡ 512 }
+pub fn imm8(op: Logic, wd: Vreg, ws: Vreg, imm: u8, vectors: &[u8; 512]) -> Plan
     ensures { result ≡ writes wd (imm8_of op (register_at vectors.now wd)
         (register_at vectors.now ws) imm) }
 {
@@ -94,16 +88,14 @@ pub fn imm8(op: Logic, wd: Vreg, ws: Vreg, imm: u8, vectors: &[u8]) -> Plan
     Plan::Vector(wd, forms::imm8(op, d, s, imm))
 }
 
-pub fn shf(df: Width, wd: Vreg, ws: Vreg, imm: u8, vectors: &[u8]) -> Plan
-    requires { length vectors.now ≡ 512 }
+pub fn shf(df: Width, wd: Vreg, ws: Vreg, imm: u8, vectors: &[u8; 512]) -> Plan
     ensures { result ≡ writes wd (whole (bits df)
         (chosen_by_immediate imm (bits df) (register_at vectors.now ws))) }
 {
     Plan::Vector(wd, permute::shf(df, read_register(vectors, ws), imm))
 }
 
-pub fn insve(df: Width, wd: Vreg, n: u8, ws: Vreg, vectors: &[u8]) -> Plan
-    requires { length vectors.now ≡ 512 }
+pub fn insve(df: Width, wd: Vreg, n: u8, ws: Vreg, vectors: &[u8; 512]) -> Plan
     ensures { result ≡ writes wd (whole (bits df)
         (with_element n (element (bits df) (register_at vectors.now ws) 0) (bits df)
         (register_at vectors.now wd))) }
@@ -113,8 +105,7 @@ pub fn insve(df: Width, wd: Vreg, n: u8, ws: Vreg, vectors: &[u8]) -> Plan
     Plan::Vector(wd, permute::moves::insve(df, d, n as u64, s))
 }
 
-pub fn insert(df: Width, wd: Vreg, n: u8, x: u64, vectors: &[u8]) -> Plan
-    requires { length vectors.now ≡ 512 }
+pub fn insert(df: Width, wd: Vreg, n: u8, x: u64, vectors: &[u8; 512]) -> Plan
     ensures { result ≡ writes wd (whole (bits df)
         (with_element n x (bits df) (register_at vectors.now wd))) }
 {
@@ -124,15 +115,13 @@ pub fn insert(df: Width, wd: Vreg, n: u8, x: u64, vectors: &[u8]) -> Plan
     )
 }
 
-pub fn copied(wd: Vreg, ws: Vreg, vectors: &[u8]) -> Plan
-    requires { length vectors.now ≡ 512 }
+pub fn copied(wd: Vreg, ws: Vreg, vectors: &[u8; 512]) -> Plan
     ensures { result ≡ writes wd (register_at vectors.now ws) }
 {
     Plan::Vector(wd, read_register(vectors, ws))
 }
 
-pub fn vec(op: Logic, wd: Vreg, ws: Vreg, wt: Vreg, vectors: &[u8]) -> Plan
-    requires { length vectors.now ≡ 512 }
+pub fn vec(op: Logic, wd: Vreg, ws: Vreg, wt: Vreg, vectors: &[u8; 512]) -> Plan
     ensures { result ≡ writes wd (together 1 (logic_bit op) (register_at vectors.now wd)
         (register_at vectors.now ws) (register_at vectors.now wt)) }
 {
@@ -148,8 +137,7 @@ pub fn fill(df: Width, wd: Vreg, x: u64) -> Plan
     Plan::Vector(wd, vectors::spread(df, x))
 }
 
-pub fn count(op: Count, df: Width, wd: Vreg, ws: Vreg, vectors: &[u8]) -> Plan
-    requires { length vectors.now ≡ 512 }
+pub fn count(op: Count, df: Width, wd: Vreg, ws: Vreg, vectors: &[u8; 512]) -> Plan
     ensures { result ≡ writes wd (count_of op (bits df) (register_at vectors.now ws)) }
 {
     Plan::Vector(wd, forms::count(op, df, read_register(vectors, ws)))

@@ -12,7 +12,7 @@ pub returns-in-0 : goal.returns-in-0
 returns-in-0 c =
     let a = c.args in
     let m = machine a.vectors.now a.generals.now a.work.now a.c in
-    let plan = plan-common (env a.board a.table.now) m a.e c.requires.2 c.requires.3 in
+    let plan = plan-common (env a.board a.table.now) m a.e c.requires.0 c.requires.1 in
     rw (
       plan,
       ← c.code_of.ensures.0,
@@ -25,7 +25,7 @@ pub returns-in-1 : goal.returns-in-1
 returns-in-1 c =
     let a = c.args in
     let m = machine a.vectors.now a.generals.now a.work.now a.c in
-    let plan = plan-common (env a.board a.table.now) m a.e c.requires.2 c.requires.3 in
+    let plan = plan-common (env a.board a.table.now) m a.e c.requires.0 c.requires.1 in
     rw (
       plan,
       ← c.code_of.ensures.0,
@@ -38,7 +38,7 @@ pub returns-in-2 : goal.returns-in-2
 returns-in-2 c =
     let a = c.args in
     let m = machine a.vectors.now a.generals.now a.work.now a.c in
-    let plan = plan-common (env a.board a.table.now) m a.e c.requires.2 c.requires.3 in
+    let plan = plan-common (env a.board a.table.now) m a.e c.requires.0 c.requires.1 in
     rw (
       plan,
       ← c.code_of.ensures.0,
@@ -50,7 +50,7 @@ pub returns-in-3 : goal.returns-in-3
 returns-in-3 c =
     let a = c.args in
     let m = machine a.vectors.now a.generals.now a.work.now a.c in
-    let plan = plan-common (env a.board a.table.now) m a.e c.requires.2 c.requires.3 in
+    let plan = plan-common (env a.board a.table.now) m a.e c.requires.0 c.requires.1 in
     rw (
       plan,
       ← c.code_of.ensures.0,
@@ -62,7 +62,7 @@ pub returns-in-4 : goal.returns-in-4
 returns-in-4 c =
     let a = c.args in
     let m = machine a.vectors.now a.generals.now a.work.now a.c in
-    let plan = plan-common (env a.board a.table.now) m a.e c.requires.2 c.requires.3 in
+    let plan = plan-common (env a.board a.table.now) m a.e c.requires.0 c.requires.1 in
     let is : c.taken.result ≡ taken_of Bz (width_of a.e) (last_in m a.e) = cc in
     rw (
       plan,
@@ -76,7 +76,7 @@ pub returns-in-5 : goal.returns-in-5
 returns-in-5 c =
     let a = c.args in
     let m = machine a.vectors.now a.generals.now a.work.now a.c in
-    let plan = plan-common (env a.board a.table.now) m a.e c.requires.2 c.requires.3 in
+    let plan = plan-common (env a.board a.table.now) m a.e c.requires.0 c.requires.1 in
     let is : c.taken-in-5.result ≡ taken_of Bnz (width_of a.e) (last_in m a.e) = cc in
     rw (
       plan,
@@ -90,7 +90,7 @@ pub returns-in-6 : goal.returns-in-6
 returns-in-6 c =
     let a = c.args in
     let m = machine a.vectors.now a.generals.now a.work.now a.c in
-    let plan = plan-common (env a.board a.table.now) m a.e c.requires.2 c.requires.3 in
+    let plan = plan-common (env a.board a.table.now) m a.e c.requires.0 c.requires.1 in
     let is : c.taken_v.result ≡ taken_vof Bz (last_in m a.e) = cc in
     rw (
       plan,
@@ -104,7 +104,7 @@ pub returns-in_default : goal.returns-in_default
 returns-in_default c =
     let a = c.args in
     let m = machine a.vectors.now a.generals.now a.work.now a.c in
-    let plan = plan-common (env a.board a.table.now) m a.e c.requires.2 c.requires.3 in
+    let plan = plan-common (env a.board a.table.now) m a.e c.requires.0 c.requires.1 in
     let is : c.taken_v-in_default.result ≡ taken_vof Bnz (last_in m a.e) = cc in
     let rest = c.in_default.in_default-own.rest in
     let k = c.code_of.result in
@@ -119,7 +119,7 @@ returns-in_default c =
     rw (
       plan,
       ← same,
-      branching k four (omega (arith, same, c.requires.2)),
+      branching k four (omega (arith, same, c.requires.0)),
       ne_eqb 0 k (λ e. rest.0.0.0.0.0.0.1 (sym e)),
       ne_eqb 1 k (λ e. rest.0.0.0.0.0.1 (sym e)),
       ne_eqb 2 k (λ e. rest.0.0.0.0.1 (sym e)),

@@ -24,7 +24,7 @@ returns-in-Err c n v w =
     let is = sym c.kept_as-kept.ensures ∙
     c.in-Ok.is in
     rw (
-      plan-off n m a.e is c.requires.1,
+      plan-off n m a.e is c.requires,
       ← c.early_at.ensures,
       c.in-Err.is,
     )
@@ -37,7 +37,7 @@ returns-then-k-eq2 c n v w =
     let is = sym
     c.kept_as-kept.ensures ∙
     c.in-Ok.is in
-    rw (sum-off n m a.e is c.requires.1 Lsa c.if-k-eq2.true)
+    rw (sum-off n m a.e is c.requires Lsa c.if-k-eq2.true)
     (c.summed.ensures n.board.work v w)
 
 pub returns-else-k-eq2 : goal.returns-else-k-eq2
@@ -49,6 +49,6 @@ returns-else-k-eq2 c n v w =
     c.in-Ok.is in
     let go = sym c.early_at.ensures ∙
     c.in_default-early_at.is in
-    rw (sum-off n m a.e is c.requires.1 Dlsa (third-code _ a.c.mark go
+    rw (sum-off n m a.e is c.requires Dlsa (third-code _ a.c.mark go
     c.if-k-eq2.false))
     (c.summed-else-k-eq2.ensures n.board.work v w)

@@ -14,9 +14,7 @@ use Rattle.listed.proofs.off.turns_off.Goals as goal
 pub loop-count-init : goal.loop-count-init
 loop-count-init c =
     let a = c.args in (
-
-      search rules,
-      c.requires.2,
+      c.requires.1,
       λ p t v w h. sofar-none p (env a.board t) a.budget (machine v a.generals.now w a.c),
     )
 
@@ -29,12 +27,12 @@ returns-then-words-at c p t v w h =
     let whole = runs p e a.budget (machine v a.generals.now w a.c) in
     let none = step-none p e m (c.place-at.ensures.none p h.stands (rw (← h.all) c.if-words-at.true)) in
     let s = stopped_with stop.NoWord l.control in
-    sofar-stopped p e a.budget l.count m whole (l.invariant.2 p t v w h) c.loop-count-test.true
+    sofar-stopped p e a.budget l.count m whole (l.invariant.1 p t v w h) c.loop-count-test.true
     stop.NoWord s
     v l.generals w (rw none (stopped-is stop.NoWord m s refl)) refl
 
 pub off-s-requires : goal.off-s-requires
-off-s-requires c = (search rules, c.loop-count.invariant.1)
+off-s-requires c = c.loop-count.invariant.0
 
 pub loop-count-preserved : goal.loop-count-preserved
 loop-count-preserved c =
@@ -52,12 +50,10 @@ loop-count-preserved c =
     (machine v l.generals w l.control) (at.ensures.found p h.stands (rw (← h.all) low))
     in
     let o = c.off-s.ensures (env a.board []) [] [] in (
-
-      search rules,
       stays a.board.work (plan_at (env a.board []) (machine [] l.generals [] l.control) x)
-          (machine [] l.generals [] l.control) o.control ∙ l.invariant.1,
+          (machine [] l.generals [] l.control) o.control ∙ l.invariant.0,
       λ p t v w h. sofar-more p (env a.board t) a.budget l.count (machine v l.generals w l.control)
-          (runs p (env a.board t) a.budget (machine v a.generals.now w a.c)) (l.invariant.2 p t v w h)
+          (runs p (env a.board t) a.budget (machine v a.generals.now w a.c)) (l.invariant.1 p t v w h)
           c.loop-count-test.true _ _ _
           _ (step_is (from p t v w h) (c.off-s.ensures (env a.board t) v w))
           c.in_default.is,
@@ -79,7 +75,7 @@ returns-in-Err c p t v w h =
     (machine v l.generals w l.control) (at.ensures.found p h.stands (rw (← h.all) low))
     in
     sofar-stopped p (env a.board t) a.budget l.count (machine v l.generals w l.control)
-    (runs p (env a.board t) a.budget (machine v a.generals.now w a.c)) (l.invariant.2 p t v w h)
+    (runs p (env a.board t) a.budget (machine v a.generals.now w a.c)) (l.invariant.1 p t v w h)
     c.loop-count-test.true _ _ _ _ _
     (step_is (from p t v w h) (c.off-s.ensures (env a.board t) v w))
     c.in-Err.is
@@ -89,5 +85,5 @@ returns c p t v w h =
     let a = c.args in
     let l = c.loop-count in
     sofar-spent p (env a.board t) a.budget l.count (machine v l.generals w l.control)
-    (runs p (env a.board t) a.budget (machine v a.generals.now w a.c)) (l.invariant.2 p t v w h)
+    (runs p (env a.board t) a.budget (machine v a.generals.now w a.c)) (l.invariant.1 p t v w h)
     c.loop-count-test.false

@@ -26,7 +26,7 @@ returns-then-c c =
     let a = c.args in
     let left = c.if-list-words.false in
     let done = c.fill.ensures in
-    let reads = filled a.board.program a.program.now a.list.now c.requires.2 left done.are_words in
+    let reads = filled a.board.program a.program.now a.list.now c.requires left done.are_words in
     rw (le-ltb (length a.list.now) (length a.program.now / 4) left)
     (record {
       short = refl;
@@ -40,7 +40,7 @@ returns-else-c c =
     let a = c.args in
     let left = c.if-list-words.false in
     let done = c.fill.ensures in
-    let reads = filled a.board.program a.program.now a.list.now c.requires.2 left done.are_words in
+    let reads = filled a.board.program a.program.now a.list.now c.requires left done.are_words in
     rw (le-ltb (length a.list.now) (length a.program.now / 4) left)
     (record {
       short = refl;

@@ -19,7 +19,7 @@ returns-then-k-eq80 c n w k =
 
 pub seldom-requires : goal.seldom-requires
 seldom-requires c =
-    (c.requires.2, omega (arith, c.code_of-k.ensures.0, c.if-k-lt88.true))
+    (c.requires.0, omega (arith, c.code_of-k.ensures.0, c.if-k-lt88.true))
 
 pub returns-then-k-lt88 : goal.returns-then-k-lt88
 returns-then-k-lt88 c n w k =
@@ -30,7 +30,7 @@ returns-then-k-lt88 c n w k =
     let i = c.dest_of.ensures.0 in
     let j = c.source_of.ensures.0 in
     let v = c.seldom.ensures in
-    rw (executed-vector n (machine a.vectors.now a.generals.now w k) a.e (omega (arith, c.requires.2))
+    rw (executed-vector n (machine a.vectors.now a.generals.now w k) a.e (omega (arith, c.requires.0))
     (omega (arith, c.code_of-k.ensures.0, c.if-k-lt88.true))) (cc)
 
 pub returns : goal.returns
@@ -38,4 +38,4 @@ returns c n w k =
     let a = c.args in
     let v = c.other.ensures w k in
     rw (executed-value n (machine a.vectors.now a.generals.now w k) a.e
-    (omega (arith, c.code_of-k.ensures.0, c.if-k-lt88.false)) c.requires.3) (cc)
+    (omega (arith, c.code_of-k.ensures.0, c.if-k-lt88.false)) c.requires.1) (cc)

@@ -12,8 +12,8 @@ returns c n g w =
     let t = c.third-t.ensures.exact in
     let s = c.read_register-s.ensures.exact in
     let f = c.source_of.ensures.0 in
-    let p = plan-quick n (machine a.vectors.now g w a.c) a.e c.requires.1 (omega (arith, c.requires.2))
-    c.requires.3 in
+    let p = plan-quick n (machine a.vectors.now g w a.c) a.e c.requires.0 (omega (arith, c.requires.1))
+    c.requires.2 in
     rw p (record {
       outcome = ap (λ x. x.outcome) c.finished.ensures;
       control = ap (λ x. x.control)

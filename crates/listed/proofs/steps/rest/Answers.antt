@@ -32,7 +32,7 @@ returns c t =
     c.kept_as-k.ensures ∙
     c.in-Ok.is in
     rw (
-      plan-move (env a.board t) m a.e is c.requires.2 c.requires.3,
+      plan-move (env a.board t) m a.e is c.requires.0 c.requires.1,
       ← c.moved-p.ensures
           a.work.now,
     )

@@ -9,7 +9,7 @@ returns c n w =
     let a = c.args in
     let m = machine a.vectors.now a.generals.now w a.c in
     let d = c.dest_of.ensures.0 in
-    let p = plan-on n m a.e (omega (arith, c.requires.2)) (omega (arith, c.requires.3)) c.requires.4
+    let p = plan-on n m a.e (omega (arith, c.requires.0)) (omega (arith, c.requires.1)) c.requires.2
     ∙ c.made-v.ensures n w a.c
     in
     rw p (record {

@@ -16,11 +16,7 @@ use Rattle.listed.proofs.turns.turns.Goals as goal
 pub loop-count-init : goal.loop-count-init
 loop-count-init c =
     let a = c.args in (
-
-      search rules,
-      search rules,
-      refl,
-      c.requires.3,
+      c.requires.1,
       λ p h. sofar-none p (env a.board a.table.now) a.budget
           (machine a.vectors.now a.generals.now a.work.now a.c),
     )
@@ -34,33 +30,19 @@ returns-then-words-at c p h =
     let whole = runs p e a.budget (machine a.vectors.now a.generals.now a.work.now a.c) in
     let none = step-none p e m (c.place-at.ensures.none p h.stands (rw (← h.all) c.if-words-at.true)) in
     let t = stopped_with stop.NoWord l.control in
-    sofar-stopped p e a.budget l.count m whole (l.invariant.4 p h) c.loop-count-test.true stop.NoWord t
+    sofar-stopped p e a.budget l.count m whole (l.invariant.1 p h) c.loop-count-test.true stop.NoWord t
     l.vectors l.generals l.work (rw none (stopped-is stop.NoWord m t refl)) refl
 
 pub common-requires : goal.common-requires
-common-requires c = (
-  search rules,
-  search rules,
-  omega (arith, c.code_of-k.ensures.0, c.if-k-lt8.true),
-  c.loop-count.invariant.3,
-)
+common-requires c = (omega (arith, c.code_of-k.ensures.0, c.if-k-lt8.true), c.loop-count.invariant.0)
 
 pub quick-requires : goal.quick-requires
 quick-requires c =
-    let k = c.code_of-k.ensures.0 in (
-      search rules,
-      omega (arith, k, c.if-k-lt8.false),
-      omega (arith, k, c.if-k-lt56.true),
-      c.loop-count.invariant.3,
-    )
+    let k = c.code_of-k.ensures.0 in
+    (omega (arith, k, c.if-k-lt8.false), omega (arith, k, c.if-k-lt56.true), c.loop-count.invariant.0)
 
 pub slow-s-requires : goal.slow-s-requires
-slow-s-requires c = (
-  search rules,
-  search rules,
-  omega (arith, c.code_of-k.ensures.0, c.if-k-lt56.false),
-  c.loop-count.invariant.3,
-)
+slow-s-requires c = (omega (arith, c.code_of-k.ensures.0, c.if-k-lt56.false), c.loop-count.invariant.0)
 
 pub loop-count-preserved : goal.loop-count-preserved
 loop-count-preserved c =
@@ -90,11 +72,8 @@ loop-count-preserved c =
     rw from done
     in (
 
-      j.auto.vectors ∙ l.invariant.0,
-      j.auto.generals ∙ l.invariant.1,
-      j.auto.work ∙ l.invariant.2,
-      stays a.board.work (plan_at e m x) m done.control ∙ l.invariant.3,
-      λ p h. sofar-more p e a.budget l.count m (whole p) (l.invariant.4 p h)
+      stays a.board.work (plan_at e m x) m done.control ∙ l.invariant.0,
+      λ p h. sofar-more p e a.budget l.count m (whole p) (l.invariant.1 p h)
           c.loop-count-test.true _ _ _ _ (step p h)
           c.in_default.is,
     )
@@ -126,7 +105,7 @@ returns-in-Err c p h =
     in
     rw from done
     in
-    sofar-stopped p e a.budget l.count m (whole p) (l.invariant.4 p h)
+    sofar-stopped p e a.budget l.count m (whole p) (l.invariant.1 p h)
     c.loop-count-test.true _ _ _ _ _ (step p h)
     c.in-Err.is
 
@@ -137,4 +116,4 @@ returns c p h =
     let e = env a.board a.table.now in
     let m = machine l.vectors l.generals l.work l.control in
     let whole = runs p e a.budget (machine a.vectors.now a.generals.now a.work.now a.c) in
-    sofar-spent p e a.budget l.count m whole (l.invariant.4 p h) c.loop-count-test.false
+    sofar-spent p e a.budget l.count m whole (l.invariant.1 p h) c.loop-count-test.false

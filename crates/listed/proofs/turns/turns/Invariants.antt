@@ -8,8 +8,7 @@ use Rattle.state.specs.Machine.{env, machine}
 use Rattle.listed.proofs.turns.turns.Given as goal
 
 abbrev pub invariant-loop-count : goal.invariant-loop-count
-invariant-loop-count l = (length l.vectors ≡ 512) × (length l.generals ≡ 256) × (length l.work ≡ length l.initial.work)
-    × (l.control.on ≡ true)
+invariant-loop-count l = (l.control.on ≡ true)
     × ((p : List ℕ) → Reads l.board.program l.words p l.list
     → Sofar p (env l.board l.table) l.budget l.count (machine l.vectors l.generals l.work l.control)
     (runs p (env l.board l.table) l.budget (machine l.initial.vectors l.initial.generals l.initial.work l.initial.control)))

@@ -1,7 +1,6 @@
 -- `machine::act::act`: the plan, and what is made of it.
 use Rattle.plan.proofs.PlanLaws.{planned-there}
 use Rattle.state.specs.Machine.{env, machine}
-use Rattle.std.proofs.Common.{rules}
 use Rattle.machine.proofs.act.act.Goals as goal
 
 pub conclude-requires : goal.conclude-requires
@@ -10,7 +9,7 @@ conclude-requires c =
     let e = env a.board a.table.now in
     let m = machine a.vectors.now a.generals.now a.work.now a.c in
     rw c.plan_of-p.ensures
-    (search rules, search rules, planned-there e m a.i (search rules))
+    (planned-there e m a.i c.requires)
 
 pub returns : goal.returns
 returns c =

@@ -4,22 +4,22 @@ use Rattle.machine.proofs.effect.apply.Goals as goal
 
 pub write_register-requires : goal.write_register-requires
 write_register-requires c =
-    let f = rw c.in-Vector.is at c.requires.2 in
+    let f = rw c.in-Vector.is at c.requires in
     search rules
 
 pub write_general-requires : goal.write_general-requires
 write_general-requires c =
-    let f = rw c.in-General.is at c.requires.2 in
+    let f = rw c.in-General.is at c.requires in
     search rules
 
 pub overflow_sub-at : goal.overflow_sub-at
 overflow_sub-at c =
-    let f = rw c.in-Store.is at c.requires.2 in
+    let f = rw c.in-Store.is at c.requires in
     omega arith
 
 pub put_sixteen-requires : goal.put_sixteen-requires
 put_sixteen-requires c =
-    let f = rw c.in-Store.is at c.requires.2 in
+    let f = rw c.in-Store.is at c.requires in
     omega arith
 
 pub returns-in-Stop : goal.returns-in-Stop

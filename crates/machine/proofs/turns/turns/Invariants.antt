@@ -1,5 +1,4 @@
 -- `machine::turns::turns`. The invariant: the run so far and the run that is left are the whole run.
-use Rattle.std.proofs.Common.{◌≡◌, length}
 use Rattle.machine.proofs.RunLaws.{Sofar}
 use Rattle.machine.specs.Run.{runs}
 use Rattle.state.specs.Machine.{env, machine}
@@ -7,6 +6,6 @@ use Rattle.machine.proofs.turns.turns.Given as goal
 
 abbrev pub invariant-loop-count : goal.invariant-loop-count
 invariant-loop-count l =
-    (length l.vectors ≡ 512) × (length l.generals ≡ 256) × (length l.work ≡ length l.initial.work)
-    × Sofar l.program (env l.board l.table) l.budget l.count (machine l.vectors l.generals l.work l.control)
-    (runs l.program (env l.board l.table) l.budget (machine l.initial.vectors l.initial.generals l.initial.work l.initial.control))
+    Sofar l.program (env l.board l.table) l.budget l.count (machine l.vectors l.generals l.work l.control)
+    (runs l.program (env l.board l.table) l.budget
+    (machine l.initial.vectors l.initial.generals l.initial.work l.initial.control))

@@ -2,7 +2,7 @@
 use Rattle.plan.proofs.ahead.stop_ahead.Goals as goal
 
 pub address-x-requires : goal.address-x-requires
-address-x-requires c = rw c.in-Memory.is at c.requires.1
+address-x-requires c = rw c.in-Memory.is at c.requires
 
 pub returns-in-Branch : goal.returns-in-Branch
 returns-in-Branch c = rw c.in-Branch.is c.branch_early.ensures

@@ -9,7 +9,7 @@ use Rattle.plan.proofs.moves.general.Goals as goal
 
 pub returns-then-r-gt31 : goal.returns-then-r-gt31
 unfolding general_at number
-returns-then-r-gt31 c = sym (ap number (part-past _ (8 * c.args.r.0) 8 (omega (arith, c.requires, c.if-r-gt31.true))))
+returns-then-r-gt31 c = sym (ap number (part-past _ (8 * c.args.r.0) 8 (omega (arith, c.if-r-gt31.true))))
 
 pub returns : goal.returns
 unfolding general_at

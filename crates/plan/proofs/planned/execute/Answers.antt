@@ -6,22 +6,21 @@ use Rattle.plan.proofs.planned.execute.Goals as goal
 pub address-requires : goal.address-requires
 address-requires c =
     let f = rw c.in-Memory.is
-    at c.requires.2
+    at c.requires
     in
     search rules
 
 pub scaled-requires : goal.scaled-requires
 scaled-requires c =
     let f = rw c.in-Scaled.is
-    at c.requires.2
+    at c.requires
     in
     search rules
 
 pub fixed-requires : goal.fixed-requires
 fixed-requires c =
-    let pre = c.requires in
-    let f = rw c.in-Fixed.is at pre.2 in
-    (pre.0, fixed-narrow _ _ f.3 f.4)
+    let f = rw c.in-Fixed.is at c.requires in
+    fixed-narrow _ _ f.3 f.4
 
 pub returns-in-Three : goal.returns-in-Three
 returns-in-Three c = rw (c.in-Three.is, ← c.three_at.ensures) c.three.ensures
