@@ -84,7 +84,7 @@ pow_256 : (i : ℕ) → 256 ^ i ≡ 2 ^ (8 * i)
 pow_256 zero = omega arith
 pow_256 (suc i) = rw (power i, pow-suc) (omega (arith, pow_256 i))
 
-number-one : (s : List ℕ) (at : ℕ) → at < length s → number (part s at 1) ≡ get_or s at 0
+pub number-one : (s : List ℕ) (at : ℕ) → at < length s → number (part s at 1) ≡ get_or s at 0
 unfolding number
 number-one s at h = ap number (part-cons s at 0 h) ∙ omega arith
 

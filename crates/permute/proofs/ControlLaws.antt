@@ -3,14 +3,13 @@ use mathlib.Core.Path.{◌≡◌, refl, sym, ap, ap₂, ◌∙◌}
 use mathlib.Core.Bool.{cond}
 use mathlib.Core.List.{List}
 use Prim.Native.Nat.{ℕ, zero, suc, ◌+◌, ◌-◌, ◌*◌, ◌/◌, ◌%◌, ◌^◌, ◌≤◌, ◌<◌}
-use native.Mathlib.Nat.{lt_of_mul-lt-mul_left, eq_of_mul-eq-mul_left}
+use native.Mathlib.Nat.{lt_of_mul-lt-mul_left}
 use native.Mathlib.Omega.{arith}
 use borrow.Author.Tests.{eq-eqb, ne_eqb}
 use lib.Dec.{eqb, ltb, lit<}
 use lib.Bits.{bit_and, and_mask}
 use lib.Pow.{pow_pos, pow_mono, mod-mod-pow, shl_exact}
 use Rattle.element.proofs.Diff.{cond_below}
-use Rattle.element.proofs.Widths.{size}
 use Rattle.isa.specs.declared.Width.{Width}
 use Rattle.isa.specs.declared.Width.TheVariants.{B, H, W, D}
 use Rattle.isa.specs.Widths.{bits}
@@ -99,9 +98,9 @@ pub record Grown (n : ℕ) (f : ℕ → ℕ) (out p : ℕ) : Type 0 where
   pub built : out ≡ build n f done
   pub within : p ≤ 64
 
-pub grown-none : (n : ℕ) (f : ℕ → ℕ) → Grown n f 0 0
+pub grown-none : (n : ℕ) (f : ℕ → ℕ) → Grown n f 0 (n * 0)
 unfolding build
-grown-none n f = record { done = 0; place = omega arith; built = refl; within = omega arith }
+grown-none n f = record { done = 0; place = refl; built = refl; within = omega arith }
 
 module _ {n : ℕ} {f : ℕ → ℕ} {out p : ℕ} (share : Shares n) (g : Grown n f out p) where
   grown-room : p < 64 → p + n ≤ 64
@@ -122,17 +121,22 @@ module _ {n : ℕ} {f : ℕ → ℕ} {out p : ℕ} (share : Shares n) (g : Grown
       let more = grown-more h in
       omega (arith, more.built, build-below n f below more.done, pow_mono (rw more.place at more.within))
 
-  grown-all : 0 < n → 64 ≤ p → out ≡ build n f (64 / n)
-  grown-all some h =
-      let full : n * g.done ≡ n * (64 / n) = omega (arith, g.place, g.within, share.word) in
-      g.built ∙ ap (build n f) (eq_of_mul-eq-mul_left n some g.done (64 / n) full)
-
 -- the element that a control chooses, in its word
 picked : (w : Width) (s t c : ℕ) {word : ℕ} → c / 64 % 4 ≡ 0
     → word ≡ both 64 s t (bits w * bit_and c (256 / bits w - 1) / 64)
     → bit_and (word / 2 ^ (bits w * bit_and c (256 / bits w - 1) % 64)) (2 ^ bits w - 1) ≡ told (bits w) s t c
 picked w s t c h e =
     rw (e, and_mask, ← both_at w s t (bit_and c (256 / bits w - 1)), reach-mask w c, eq-eqb (c / 64 % 4) 0 h)
+
+-- where element i of a word begins, and the one behind it
+place-inside : (w : Width) (i : ℕ) → i < 64 / bits w → bits w * i < 64
+place-inside B i h = omega arith
+place-inside H i h = omega arith
+place-inside W i h = omega arith
+place-inside D i h = omega arith
+
+pub place-next : (n i : ℕ) → n * i + n ≡ n * (i + 1)
+place-next n i = omega arith
 
 -- what the loop of VSHF has at bit p: the numbers of a width, and in out what the controls of d below p choose
 pub record Turn (d s t n mask last out p : ℕ) : Type 0 where
@@ -167,8 +171,8 @@ module _ {d s t n mask last out p : ℕ} (g : Turn d s t n mask last out p) wher
   pub turn-place : place < 256
   turn-place = rw (g.size, g.reach) (place-below g.w (d / 2 ^ p))
 
-  pub turn-some : 0 < n
-  turn-some = rw g.size (size g.w).any
+  pub turn-inside : {i : ℕ} → p ≡ n * i → i < 64 / n → p < 64
+  turn-inside e h = rw (e, g.size) (place-inside g.w _ (rw g.size at h))
 
   pub turn-room : p < 64 → p + n ≤ 64
   turn-room h = grown-room share g.grown h
@@ -204,9 +208,6 @@ module _ {d s t n mask last out p : ℕ} (g : Turn d s t n mask last out p) wher
 
     pub turn-taken : Turn d s t n mask last (out + cut * 2 ^ p % 2 ^ 64) (p + n)
     turn-taken = put-taken h cut-is
-
-  pub turn-all : 64 ≤ p → out ≡ build n (chosen_by_control n d s t) (64 / n)
-  turn-all h = grown-all share g.grown turn-some h
 
 -- the registers whose words a list has, the first two wt's and the others ws's
 abbrev pub first : List ℕ → Register

@@ -1,14 +1,12 @@
 -- The elements of registers in their file, and which of them a control chooses. Assumes nothing.
 use mathlib.Core.Path.{◌≡◌, sym, ap, ◌∙◌}
-use mathlib.Core.List.{List, [], ◌∷◌}
-use Prim.Native.Nat.{ℕ, suc, ◌+◌, ◌-◌, ◌*◌, ◌/◌, ◌%◌, ◌^◌, ◌≤◌, ◌<◌}
+use mathlib.Core.List.{List}
+use Prim.Native.Nat.{ℕ, ◌+◌, ◌-◌, ◌*◌, ◌/◌, ◌%◌, ◌^◌, ◌≤◌, ◌<◌}
 use native.Mathlib.Nat.{add_comm, mod-lt}
-use native.Mathlib.Numerals.{add-one}
 use native.Mathlib.Omega.{arith}
 use borrow.Author.Tests.{eq-eqb}
-use lib.ListN.{length, get_or}
+use lib.ListN.{length}
 use lib.Pow as pow
-use lib.Seq.{drop-cons}
 use Rattle.isa.specs.declared.Vreg.{Vreg}
 use Rattle.isa.specs.declared.Width.{Width}
 use Rattle.isa.specs.declared.Width.TheVariants.{B, H, W, D}
@@ -18,18 +16,10 @@ use Rattle.memory.specs.File.{register_at}
 use Rattle.memory.proofs.Numbers.{number-below, number-parts, part_bytes}
 use Rattle.memory.proofs.Parts.{length_part}
 use Rattle.vectors.specs.Register.{element}
-use Rattle.permute.specs.Permute.{both}
 use Rattle.permute.proofs.ControlLaws.{told}
 use Rattle.permute.proofs.SideLaws.{place-first, place-second}
 
 -- ---- an element in the file
-
-pub byte-number : (s : List ℕ) (at : ℕ) → at + 1 ≤ length s → number (part s at 1) ≡ get_or s at 0
-unfolding number
-byte-number s at h = rw (drop-cons s at 0 (omega arith)) (omega arith)
-
-pub part-two : (s : List ℕ) (at : ℕ) → at + 2 ≤ length s → part s at 2 ≡ get_or s at 0 ∷ get_or s (at + 1) 0 ∷ []
-part-two s at h = rw (drop-cons s at 0 (omega arith), drop-cons s (suc at) 0 (omega arith), add-one)
 
 -- the number in the middle of one
 middle : (a b c i n : ℕ) → a < 2 ^ i → b < 2 ^ n → (a + (b + c * 2 ^ n) * 2 ^ i) / 2 ^ i % 2 ^ n ≡ b
@@ -114,10 +104,3 @@ module _ (file : List ℕ) (are : AreBytes file) (long : length file ≡ 512) wh
         rw (eq-eqb (c / 64 % 4) 0 taken)
         (element-filed w s (c % m) h (mod-lt c (some w))
         ∙ place-second (bits w) (register_at file s) (register_at file t) (c % m) (odd w c e))
-
--- and where it begins there is room
-pub filed-room : (w : Width) (r c : ℕ) → r < 32 → 16 * r + bytes w * (c % (128 / bits w)) + bytes w ≤ 512
-filed-room B r c h = omega arith
-filed-room H r c h = omega arith
-filed-room W r c h = omega arith
-filed-room D r c h = omega arith

@@ -8,30 +8,7 @@ ghost use Rattle.vectors.specs.Register.{build};
 ghost use Rattle.permute.specs.Permute.{chosen_by_control};
 
 use isa::{Vreg, Width};
-use memory::{eight, four};
-
-fn wide(b: u8) -> u64
-    ensures { (result ≡ b) × (result < 256) }
-{
-    b as u64
-}
-
-// The number of the two bytes from at.
-fn two(s: &[u8], at: usize) -> u64
-    requires { at + 2 ≤ length s.now }
-    ensures { result ≡ number (part s.now at 2) }
-{
-    let low = wide(s[at]);
-    let high = wide(s[at + 1]);
-    low + 256 * high
-}
-
-fn one(s: &[u8], at: usize) -> u64
-    requires { at + 1 ≤ length s.now }
-    ensures { result ≡ number (part s.now at 1) }
-{
-    wide(s[at])
-}
+use memory::{eight, four, two};
 
 // The element whose bytes begin at at.
 fn item(w: Width, s: &[u8], at: usize) -> u64
@@ -39,9 +16,9 @@ fn item(w: Width, s: &[u8], at: usize) -> u64
     ensures { result ≡ number (part s.now at (bytes w)) }
 {
     match w {
-        Width::B => one(s, at),
-        Width::H => two(s, at),
-        Width::W => four(s, at) as u64,
+        Width::B => u64::from(s[at]),
+        Width::H => u64::from(two(s, at)),
+        Width::W => u64::from(four(s, at)),
         Width::D => eight(s, at),
     }
 }
@@ -56,16 +33,15 @@ fn picked(w: Width, n: u64, b: u64, m: u64, d: u64, file: &[u8], s: u8, t: u8) -
         (register_at file.now (record { 0 = s })) (register_at file.now (record { 0 = t })))
         (64 / bits w) }
 {
-    let mut out = 0u64;
-    let mut p = 0u64;
-    while p < 64 {
+    let mut out = 0;
+    for i in 0..64 / n {
+        let p = n * i;
         let c = d >> p;
         if c / 64 % 4 == 0 {
             let r = if c / m % 2 == 0 { t } else { s };
-            let at = 16 * (r as u64) + b * (c % m);
-            out = out + (item(w, file, at as usize) << p);
+            let at = 16 * u64::from(r) + b * (c % m);
+            out += item(w, file, at as usize) << p;
         }
-        p += n;
     }
     out
 }

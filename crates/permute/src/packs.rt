@@ -48,27 +48,11 @@ pub fn wide(op: Pack, w: Width, s: Register, t: Register) -> Register
     ensures { result ≡ register (whole (bits w) (packed op (bits w) (value s) (value t))) }
 {
     match op {
-        Pack::Pckev => Register {
+        Pack::Pckev | Pack::Ilvr | Pack::Ilvev => Register {
             low: t.low,
             high: s.low,
         },
-        Pack::Pckod => Register {
-            low: t.high,
-            high: s.high,
-        },
-        Pack::Ilvl => Register {
-            low: t.high,
-            high: s.high,
-        },
-        Pack::Ilvr => Register {
-            low: t.low,
-            high: s.low,
-        },
-        Pack::Ilvev => Register {
-            low: t.low,
-            high: s.low,
-        },
-        Pack::Ilvod => Register {
+        Pack::Pckod | Pack::Ilvl | Pack::Ilvod => Register {
             low: t.high,
             high: s.high,
         },

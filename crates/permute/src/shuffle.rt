@@ -26,16 +26,15 @@ fn picked(w: Width, n: u64, mask: u64, last: u64, d: u64, s: Register, t: Regist
     ensures { result ≡ build (bits w) (permute.chosen_by_control (bits w) d (value s) (value t)) (64 / bits w) }
 {
     let words = [t.low, t.high, s.low, s.high];
-    let mut out = 0u64;
-    let mut p = 0u64;
-    while p < 64 {
+    let mut out = 0;
+    for i in 0..64 / n {
+        let p = n * i;
         let c = d >> p;
         if c / 64 % 4 == 0 {
             let a = n * (c & last);
             let x = (words[(a / 64) as usize] >> (a % 64)) & mask;
-            out = out + (x << p);
+            out += x << p;
         }
-        p += n;
     }
     out
 }

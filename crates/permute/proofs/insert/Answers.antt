@@ -1,7 +1,6 @@
 -- `permute::insert` meets its contract. The element is in one of the words, or past both.
 use borrow.Author.Rules.{rules}
 use native.Mathlib.Omega.{arith}
-use Prim.Native.Nat.{◌-◌}
 use Rattle.isa.specs.Widths.{bits}
 use Rattle.memory.specs.Value.{value}
 use Rattle.memory.proofs.Values.{Words, is-register}
@@ -11,12 +10,6 @@ use Rattle.parallel.proofs.Words.{own, built, same-lanes}
 use Rattle.permute.specs.Permute.{with_element}
 use Rattle.permute.proofs.InsertLaws.{in-low, in-high, low-kept, high-kept, all-kept}
 use Rattle.permute.proofs.insert.Goals as goal
-
-pub put-requires : goal.put-requires
-put-requires c = omega (arith, c.per_word-m.ensures)
-
-pub put-requires-then-i-m-2 : goal.put-requires-then-i-m-2
-put-requires-then-i-m-2 c = omega (arith, c.per_word-m.ensures)
 
 pub returns-then-i-m : goal.returns-then-i-m
 returns-then-i-m c =

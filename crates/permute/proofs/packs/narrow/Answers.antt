@@ -8,42 +8,6 @@ use Rattle.parallel_pack.proofs.Places.{doubles}
 use Rattle.permute.proofs.PackLaws.{seconds-packed, low_halves, high-halves, seconds-turned}
 use Rattle.permute.proofs.packs.narrow.Goals as goal
 
-pub every_second-requires : goal.every_second-requires
-every_second-requires c = (search rules, lit≤ tt)
-
-pub every_second-requires-in-Pckev : goal.every_second-requires-in-Pckev
-every_second-requires-in-Pckev c = (search rules, lit≤ tt)
-
-pub every_second-requires-in-Pckod : goal.every_second-requires-in-Pckod
-every_second-requires-in-Pckod c = (search rules, lit≤ tt)
-
-pub every_second-requires-in-Pckod-2 : goal.every_second-requires-in-Pckod-2
-every_second-requires-in-Pckod-2 c = (search rules, lit≤ tt)
-
-pub half_in_turns-requires : goal.half_in_turns-requires
-half_in_turns-requires c = (search rules, lit≤ tt)
-
-pub half_in_turns-requires-in-Ilvl : goal.half_in_turns-requires-in-Ilvl
-half_in_turns-requires-in-Ilvl c = (search rules, lit≤ tt)
-
-pub half_in_turns-requires-in-Ilvr : goal.half_in_turns-requires-in-Ilvr
-half_in_turns-requires-in-Ilvr c = (search rules, lit≤ tt)
-
-pub half_in_turns-requires-in-Ilvr-2 : goal.half_in_turns-requires-in-Ilvr-2
-half_in_turns-requires-in-Ilvr-2 c = (search rules, lit≤ tt)
-
-pub second_in_turns-requires : goal.second_in_turns-requires
-second_in_turns-requires c = (search rules, lit≤ tt)
-
-pub second_in_turns-requires-in-Ilvev : goal.second_in_turns-requires-in-Ilvev
-second_in_turns-requires-in-Ilvev c = (search rules, lit≤ tt)
-
-pub second_in_turns-requires-in-Ilvod : goal.second_in_turns-requires-in-Ilvod
-second_in_turns-requires-in-Ilvod c = (search rules, lit≤ tt)
-
-pub second_in_turns-requires-in-Ilvod-2 : goal.second_in_turns-requires-in-Ilvod-2
-second_in_turns-requires-in-Ilvod-2 c = (search rules, lit≤ tt)
-
 pub returns-in-Pckev : goal.returns-in-Pckev
 returns-in-Pckev c = let a = c.args in
     rw c.in-Pckev.is

@@ -2,24 +2,11 @@
 use borrow.Author.Rules.{rules}
 use mathlib.Core.Path.{◌≡◌}
 use native.Mathlib.Omega.{arith}
-use Rattle.element.proofs.Widths.{size}
 use Rattle.isa.specs.declared.Width.TheVariants.{B}
 use Rattle.vectors.proofs.Sizes.{shares}
 use Rattle.parallel.proofs.Words.{own, same-lanes}
 use Rattle.permute.proofs.SlideLaws.{bytes_of, slid-lanes, slid-bytes, slid-none}
 use Rattle.permute.proofs.slides.funnel.Goals as goal
-
-pub overflow_mul-p : goal.overflow_mul-p
-overflow_mul-p c = let a = c in omega (arith, (bytes_of a.args.v).bytes, a.requires, size a.args.v)
-
-pub shr-requires : goal.shr-requires
-shr-requires c = let a = c in omega (arith, (bytes_of a.args.v).bytes, a.requires)
-
-pub overflow_sub-count : goal.overflow_sub-count
-overflow_sub-count c = let a = c in omega (arith, c.count.ensures, (bytes_of a.args.v).bytes, a.requires)
-
-pub sll-requires : goal.sll-requires
-sll-requires c = let a = c in omega (arith, c.count.ensures, size a.args.v)
 
 pub overflow_add-result : goal.overflow_add-result
 overflow_add-result c =
