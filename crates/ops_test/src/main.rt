@@ -3,7 +3,7 @@
 // After them, the same for corners-ops.txt of that folder and for tools/examples.txt.
 #![tactic(auto)]
 
-ghost use Rattle.std.specs.Prelude.{◌≡◌, ◌≤◌, length, IfOk};
+ghost use Rattle.std.specs.Prelude.{◌≤◌, IfOk};
 
 use isa::Vreg;
 use machine::step::step;
@@ -16,21 +16,19 @@ use std::io;
 use std::io::Read;
 use streams::read_full;
 
-fn set_vector(v: &mut [u8], number: u8, r: [u8; 100], at: usize)
-    requires { (length v.old ≡ 512) × (at ≤ 84) }
+fn set_vector(v: &mut [u8; 512], number: u8, r: [u8; 100], at: usize)
+    requires { at ≤ 84 }
 {
     write_register(v, Vreg(number % 32), sixteen(&r, at));
 }
 
-fn set_general(g: &mut [u8], number: u8, r: [u8; 100], at: usize)
-    requires { (length g.old ≡ 256) × (at ≤ 84) }
+fn set_general(g: &mut [u8; 256], number: u8, r: [u8; 100], at: usize)
+    requires { at ≤ 84 }
 {
     put_eight(g, (number % 32) as usize * 8, eight(&r, at));
 }
 
-fn set_sources(v: &mut [u8], g: &mut [u8], r: [u8; 100])
-    requires { (length v.old ≡ 512) × (length g.old ≡ 256) }
-{
+fn set_sources(v: &mut [u8; 512], g: &mut [u8; 256], r: [u8; 100]) {
     set_vector(v, r[4], r, 12);
     set_vector(v, r[5], r, 28);
     set_vector(v, r[6], r, 44);
@@ -39,23 +37,11 @@ fn set_sources(v: &mut [u8], g: &mut [u8], r: [u8; 100])
     set_general(g, r[9], r, 76);
 }
 
-fn set_result(v: &mut [u8], g: &mut [u8], r: [u8; 100])
-    requires { (length v.old ≡ 512) × (length g.old ≡ 256) }
-{
+fn set_result(v: &mut [u8; 512], g: &mut [u8; 256], r: [u8; 100]) {
     if r[10] == 0 {
         set_vector(v, r[4], r, 84);
     } else {
         set_general(g, r[9], r, 84);
-    }
-}
-
-fn finished(answer: Result<Result<(), Stop>, Refusal>) -> bool {
-    match answer {
-        Ok(outcome) => match outcome {
-            Ok(()) => true,
-            Err(_) => false,
-        },
-        Err(_) => false,
     }
 }
 
@@ -75,8 +61,7 @@ fn steps(word: &[u8], v: &mut [u8], g: &mut [u8]) -> bool {
     };
     let mut work = [0u8; 1];
     let answered = step(board, word, &[0u8; 0], v, g, &mut work, control);
-    let answer = answered.answer;
-    finished(answer)
+    answered.answer == Ok(Ok(()))
 }
 
 fn agrees(r: [u8; 100]) -> bool {
@@ -112,13 +97,11 @@ fn announced<R: Read>(input: &mut R) -> io::Result<u64> {
 fn agreeing<R: Read>(input: &mut R, n: u64) -> io::Result<u64>
     ensures { IfOk result (λ agreed. agreed ≤ n) }
 {
-    let mut agreed = 0u64;
-    let mut i = 0u64;
-    while i < n {
+    let mut agreed = 0;
+    for _ in 0..n {
         if next_case(input)? {
             agreed += 1;
         }
-        i += 1;
     }
     Ok(agreed)
 }
