@@ -9,11 +9,7 @@ use state::stops::Stop;
 pub fn switched_early(on: bool) -> Result<(), Stop>
     ensures { result ≡ switched_early on }
 {
-    if on {
-        Ok(())
-    } else {
-        Err(Stop::SwitchedOff)
-    }
+    if on { Ok(()) } else { Err(Stop::SwitchedOff) }
 }
 
 pub fn branch_early(k: Mark, on: bool) -> Result<(), Stop>

@@ -55,7 +55,15 @@ pub fn element(op: Indexed, df: Width, wd: Vreg, ws: Vreg, n: u8, vectors: &[u8;
     )
 }
 
-pub fn imm5(op: Arith, signed: bool, df: Width, wd: Vreg, ws: Vreg, imm: u8, vectors: &[u8; 512]) -> Plan
+pub fn imm5(
+    op: Arith,
+    signed: bool,
+    df: Width,
+    wd: Vreg,
+    ws: Vreg,
+    imm: u8,
+    vectors: &[u8; 512],
+) -> Plan
     ensures { result ≡ writes wd (imm5_of op signed (bits df) (register_at vectors.now ws) imm) }
 {
     Plan::Vector(
