@@ -10,7 +10,7 @@ use Rattle.plan.specs.Ahead.{stop_in}
 use Rattle.plan.specs.Plan.{plan_of}
 use Rattle.state.specs.declared.control.Control.{Control}
 use Rattle.state.specs.declared.stops.Stop.{Stop}
-use Rattle.state.specs.declared.stops.Stop.TheVariants.{NoWord, Unread}
+use Rattle.state.specs.declared.stops.Stop.TheVariants as stop
 use Rattle.state.specs.Fetch.{fetched}
 use Rattle.state.specs.Machine.{Env, Machine}
 use Rattle.state.specs.Setup.{refusal}
@@ -38,12 +38,12 @@ concluded base p m = result (outcome_of p) (applied base p m)
 
 -- a word that reads as no instruction goes no further than 12 to 14
 abbrev pub decided : Result Instr Unread → Env → Machine → Ending
-decided (Err u) e m = stops (Unread u) m
+decided (Err u) e m = stops (stop.Unread u) m
 decided (Ok i) e m = concluded e.board.work (plan_of e m i) m
 
 abbrev pub attempted : Option ℕ → Env → Machine → Ending
 attempted (Some w) e m = decided (read_of w) e m
-attempted None e m = stops NoWord m
+attempted None e m = stops stop.NoWord m
 
 unfoldable pub step_of : List ℕ → Env → Machine → Ending
 step_of program e m = attempted (fetched program e.board.program m.ctl.pc) e m
@@ -60,8 +60,8 @@ abbrev pub stopped_with : Stop → Control → Stepped
 stopped_with s c = record { outcome = Err s; control = c }
 
 abbrev pub unread_stop : Result Instr Unread → Stop
-unread_stop (Err u) = Unread u
-unread_stop (Ok i) = NoWord
+unread_stop (Err u) = stop.Unread u
+unread_stop (Ok i) = stop.NoWord
 
 -- a step with its set-up limits: a refusal changes nothing
 pub record Whole : Type 0 where

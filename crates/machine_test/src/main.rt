@@ -67,82 +67,56 @@ fn called(
     before & head::step_agrees(h, s.reason, s.missing)
 }
 
-// The same on the part of each that the head says.
-fn ran(
-    h: [u8; 112],
-    program: &[u8],
-    table: &[u8],
-    vectors: &mut [u8],
-    generals: &mut [u8],
-    work: &mut [u8],
-    control: &mut [u8],
-) -> bool {
-    let v = count(head::length(h, 0), vectors);
-    let g = count(head::length(h, 1), generals);
-    let c = count(head::length(h, 2), control);
+// The same on the part of each that the head says: what is left of the registers and the control block, where the
+// answer is the head's.
+fn ran(h: [u8; 112], program: &[u8], table: &[u8], before: Held, work: &mut [u8]) -> Option<Held> {
+    let mut held = before;
+    let v = count(head::length(h, 0), &held.vectors);
+    let g = count(head::length(h, 1), &held.generals);
+    let c = count(head::length(h, 2), &held.control);
     let p = count(head::length(h, 3), program);
     let t = count(head::length(h, 4), table);
     let w = count(head::length(h, 5), work);
     let enough = sized(h, &program[..p]);
-    enough
-        & called(
-            h,
-            &program[..p],
-            &table[..t],
-            &mut vectors[..v],
-            &mut generals[..g],
-            &mut work[..w],
-            &mut control[..c],
-        )
-}
-
-// Reads the next head over this one.
-fn read_head<R: Read>(input: &mut R, h: &mut [u8; 112]) -> io::Result<()> {
-    pieces::patch(input, h)
+    let answered = called(
+        h,
+        &program[..p],
+        &table[..t],
+        &mut held.vectors[..v],
+        &mut held.generals[..g],
+        &mut work[..w],
+        &mut held.control[..c],
+    );
+    (enough & answered).then_some(held)
 }
 
 // The registers and the control block of a case, before it or after it.
-#[derive(Clone, Copy)]
+#[derive(Clone, Copy, PartialEq, Eq)]
 struct Held {
     vectors: [u8; 513],
     generals: [u8; 264],
     control: [u8; 280],
 }
 
-fn zeros() -> Held {
-    Held {
-        vectors: [0; 513],
-        generals: [0; 264],
-        control: [0; 280],
+impl Held {
+    fn new() -> Held {
+        Held {
+            vectors: [0; 513],
+            generals: [0; 264],
+            control: [0; 280],
+        }
+    }
+
+    // Reads pieces into their places.
+    fn patch<R: Read>(&mut self, input: &mut R) -> io::Result<()> {
+        pieces::patch(input, &mut self.vectors)?;
+        pieces::patch(input, &mut self.generals)?;
+        pieces::patch(input, &mut self.control)
     }
 }
 
-// These with the pieces read into their places.
-fn patched<R: Read>(input: &mut R, held: Held) -> io::Result<Held> {
-    let mut vectors = held.vectors;
-    let mut generals = held.generals;
-    let mut control = held.control;
-    pieces::patch(input, &mut vectors)?;
-    pieces::patch(input, &mut generals)?;
-    pieces::patch(input, &mut control)?;
-    Ok(Held {
-        vectors,
-        generals,
-        control,
-    })
-}
-
-fn same_held(got: Held, want: Held) -> bool {
-    let v = got.vectors;
-    let g = got.generals;
-    let c = got.control;
-    let want_v = want.vectors;
-    let want_g = want.generals;
-    let want_c = want.control;
-    pieces::same(&v, &want_v) & pieces::same(&g, &want_g) & pieces::same(&c, &want_c)
-}
-
 // Reads the windows before; `want` and `again` have the work window's bytes too.
+// The windows are apart and not in a struct: fields that are lent together behind a reference have no proof.
 fn read_windows<R: Read>(
     input: &mut R,
     h: [u8; 112],
@@ -160,121 +134,9 @@ fn read_windows<R: Read>(
     Ok(())
 }
 
-// Runs the case on `work` and compares.
-fn first_agrees(
-    h: [u8; 112],
-    before: Held,
-    after: Held,
-    program: &[u8],
-    table: &[u8],
-    work: &mut [u8],
-    want: &[u8],
-) -> bool {
-    let mut vectors = before.vectors;
-    let mut generals = before.generals;
-    let mut control = before.control;
-    let answered = ran(
-        h,
-        program,
-        table,
-        &mut vectors,
-        &mut generals,
-        work,
-        &mut control,
-    );
-    let left = Held {
-        vectors,
-        generals,
-        control,
-    };
-    answered & same_held(left, after) & pieces::same_start(work, want, head::length(h, 5))
-}
-
-// The same of the second engine.
-fn second_agrees(
-    h: [u8; 112],
-    before: Held,
-    after: Held,
-    program: &[u8],
-    table: &[u8],
-    work: &mut [u8],
-    want: &[u8],
-    list: &mut [u64],
-) -> bool {
-    let mut vectors = before.vectors;
-    let mut generals = before.generals;
-    let mut control = before.control;
-    let answered = second::long(
-        h,
-        program,
-        table,
-        &mut vectors,
-        &mut generals,
-        work,
-        &mut control,
-        list,
-    );
-    let left = Held {
-        vectors,
-        generals,
-        control,
-    };
-    answered & same_held(left, after) & pieces::same_start(work, want, head::length(h, 5))
-}
-
-// The same of the second engine with a list that is too short: everything is to be as before.
-fn short_agrees(
-    h: [u8; 112],
-    before: Held,
-    program: &[u8],
-    table: &[u8],
-    work: &mut [u8],
-    want: &[u8],
-    list: &mut [u64],
-) -> bool {
-    let mut vectors = before.vectors;
-    let mut generals = before.generals;
-    let mut control = before.control;
-    let answered = second::short(
-        h,
-        program,
-        table,
-        &mut vectors,
-        &mut generals,
-        work,
-        &mut control,
-        list,
-    );
-    let left = Held {
-        vectors,
-        generals,
-        control,
-    };
-    answered & same_held(left, before) & pieces::same_start(work, want, head::length(h, 5))
-}
-
-// Reads the contents after, runs the case on both engines and compares. The second has the copy `again` of the work
-// window; the first runs last, so that `work` has the bytes before for the comparison of a list that is too short.
-fn agrees_after<R: Read>(
-    input: &mut R,
-    h: [u8; 112],
-    before: Held,
-    program: &[u8],
-    table: &[u8],
-    work: &mut [u8],
-    want: &mut [u8],
-    again: &mut [u8],
-    list: &mut [u64],
-) -> io::Result<bool> {
-    let after = patched(input, before)?;
-    pieces::patch(input, want)?;
-    let short = short_agrees(h, before, program, table, again, work, list);
-    let second = second_agrees(h, before, after, program, table, again, want, list);
-    let first = first_agrees(h, before, after, program, table, work, want);
-    Ok(first & second & short)
-}
-
-// Reads the windows of a case before, and goes on with the contents after.
+// Reads the contents before and after, runs the case on both engines and compares. The second has the copy `again` of
+// the work window, first with a list that is too short, where everything is to be as before. The first engine runs
+// last, so that `work` has the bytes before for that comparison.
 fn agrees<R: Read>(
     input: &mut R,
     h: [u8; 112],
@@ -287,14 +149,23 @@ fn agrees<R: Read>(
     list: &mut [u64],
 ) -> io::Result<bool> {
     read_windows(input, h, program, table, work, want, again)?;
-    agrees_after(input, h, before, program, table, work, want, again, list)
+    let mut after = before;
+    after.patch(input)?;
+    pieces::patch(input, want)?;
+    let n = head::length(h, 5);
+    let left = second::short(h, program, table, before, again, list);
+    let short = (left == Some(before)) & pieces::same_start(again, work, n);
+    let left = second::long(h, program, table, before, again, list);
+    let second = (left == Some(after)) & pieces::same_start(again, want, n);
+    let left = ran(h, program, table, before, work);
+    let first = (left == Some(after)) & pieces::same_start(work, want, n);
+    Ok(first & second & short)
 }
 
 // Whether a case follows.
 fn more<R: Read>(input: &mut R) -> io::Result<bool> {
-    let mut b = [0u8; 1];
-    let n = read_full(input, &mut b)?;
-    Ok(n == 1)
+    let mut b = [0; 1];
+    Ok(read_full(input, &mut b)? == 1)
 }
 
 // The head, and the registers and the control block before, are kept from case to case.
@@ -308,22 +179,19 @@ fn replay_all<R: Read>(
     again: &mut [u8],
     list: &mut [u64],
 ) -> io::Result<Tally> {
-    let mut h = [0u8; 112];
-    let mut before = zeros();
-    let mut t = tally::none();
-    let mut turns: u32 = 65536;
-    while 0 < turns {
-        turns -= 1;
-        if more(input)? {
-            read_head(input, &mut h)?;
-            before = patched(input, before)?;
-            let yes = agrees(input, h, before, program, table, work, want, again, list)?;
-            t = tally::with(rt, t, h, yes)?;
-        } else {
-            turns = 0;
+    let mut h = [0; 112];
+    let mut before = Held::new();
+    let mut tally = Tally::new();
+    for _ in 0..65536 {
+        if !more(input)? {
+            break;
         }
+        pieces::patch(input, &mut h)?;
+        before.patch(input)?;
+        let yes = agrees(input, h, before, program, table, work, want, again, list)?;
+        tally.add(rt, h, yes)?;
     }
-    Ok(t)
+    Ok(tally)
 }
 
 // One byte more than a window may have.
@@ -348,7 +216,7 @@ fn main(rt: HostRuntime) -> io::Result<()> {
     let mut want = window();
     let mut again = window();
     let mut list = entries();
-    let t = replay_all(
+    let tally = replay_all(
         &rt,
         &mut input,
         &mut program,
@@ -358,5 +226,5 @@ fn main(rt: HostRuntime) -> io::Result<()> {
         &mut again,
         &mut list,
     )?;
-    tally::report(&rt, t)
+    tally.report(&rt)
 }

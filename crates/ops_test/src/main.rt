@@ -25,7 +25,7 @@ fn set_vector(v: &mut [u8; 512], number: u8, r: [u8; 100], at: usize)
 fn set_general(g: &mut [u8; 256], number: u8, r: [u8; 100], at: usize)
     requires { at ≤ 84 }
 {
-    put_eight(g, (number % 32) as usize * 8, eight(&r, at));
+    put_eight(g, usize::from(number % 32) * 8, eight(&r, at));
 }
 
 fn set_sources(v: &mut [u8; 512], g: &mut [u8; 256], r: [u8; 100]) {
@@ -86,11 +86,10 @@ fn next_case<R: Read>(input: &mut R) -> io::Result<bool> {
 // The number of cases of the next part.
 fn announced<R: Read>(input: &mut R) -> io::Result<u64> {
     let mut b = [0u8; 8];
-    let n = read_full(input, &mut b)?;
-    if n < 8 {
+    if read_full(input, &mut b)? < 8 {
         return Ok(0);
     }
-    Ok(eight(&b, 0))
+    Ok(u64::from_le_bytes(b))
 }
 
 // How many of the next n cases agree.

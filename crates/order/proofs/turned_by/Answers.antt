@@ -1,5 +1,4 @@
 -- `order::turned_by`: an exchange more for each size.
-use borrow.Author.Rules.{rules}
 use mathlib.Core.Path.{◌≡◌, refl}
 use Prim.Native.Nat.{ℕ}
 use native.Mathlib.Omega.{arith}
@@ -26,10 +25,6 @@ fours = moved_on (place Big 2) (neighbour 2) (place Big 4) refl refl
 eights : {x y z : ℕ} → Moved x (place Big 4) y → Moved y (neighbour 4) z → Moved x (place Big 8) z
 eights = moved_on (place Big 4) (neighbour 4) (place Big 8) refl refl
 
-pub returns-then-n-eq1 : goal.returns-then-n-eq1
-returns-then-n-eq1 c =
-    rw c.if-n-eq1.true (moved_by (λ b. b) (place Big 1) refl (record { below = search rules; at = λ b h. refl }))
-
 pub exchanged-twos-requires : goal.exchanged-twos-requires
 unfolding element
 exchanged-twos-requires c = (omega arith, omega arith, lower_by 1 0x00FF00FF00FF00FF refl)
@@ -42,9 +37,7 @@ unfolding element
 exchanged-fours-requires c = (omega arith, omega arith, lower_by 2 0x0000FFFF0000FFFF refl)
 
 pub returns-then-n-eq4 : goal.returns-then-n-eq4
-returns-then-n-eq4 c =
-    let two = c in
-    rw c.if-n-eq4.true (fours (twos two.exchanged-twos.ensures) c.exchanged-fours.ensures)
+returns-then-n-eq4 c = rw c.if-n-eq4.true (fours (twos c.exchanged-twos.ensures) c.exchanged-fours.ensures)
 
 pub exchanged-requires : goal.exchanged-requires
 unfolding element
@@ -52,8 +45,5 @@ exchanged-requires c = (omega arith, omega arith, lower_by 4 0x00000000FFFFFFFF 
 
 pub returns : goal.returns
 returns c =
-    let four = c in
-    let two = four in
-    let start = two in
-    rw (last start.requires two.if-n-eq1.false four.if-n-eq2.false c.if-n-eq4.false)
-    (eights (fours (twos two.exchanged-twos.ensures) four.exchanged-fours.ensures) c.exchanged.ensures)
+    rw (last c.requires c.if-n-eq1.false c.if-n-eq2.false c.if-n-eq4.false)
+    (eights (fours (twos c.exchanged-twos.ensures) c.exchanged-fours.ensures) c.exchanged.ensures)

@@ -12,8 +12,8 @@ write_general-requires c =
     let f = rw c.in-General.is at c.requires in
     search rules
 
-pub overflow_sub-at : goal.overflow_sub-at
-overflow_sub-at c =
+pub overflow_sub : goal.overflow_sub
+overflow_sub c =
     let f = rw c.in-Store.is at c.requires in
     omega arith
 
@@ -21,12 +21,6 @@ pub put_sixteen-requires : goal.put_sixteen-requires
 put_sixteen-requires c =
     let f = rw c.in-Store.is at c.requires in
     omega arith
-
-pub returns-in-Stop : goal.returns-in-Stop
-returns-in-Stop c = rw c.in-Stop.is (record { vectors_after = refl; generals_after = refl; work_after = refl })
-
-pub returns-in-Nothing : goal.returns-in-Nothing
-returns-in-Nothing c = rw c.in-Nothing.is (record { vectors_after = refl; generals_after = refl; work_after = refl })
 
 pub returns-in-Vector : goal.returns-in-Vector
 returns-in-Vector c = rw c.in-Vector.is (record { vectors_after = c.write_register.ensures; generals_after = refl; work_after = refl })
@@ -37,8 +31,3 @@ returns-in-General c = rw c.in-General.is (record { vectors_after = refl; genera
 pub returns-in-Store : goal.returns-in-Store
 returns-in-Store c = rw c.in-Store.is (record { vectors_after = refl; generals_after = refl; work_after = c.put_sixteen.ensures })
 
-pub returns-in-Csr : goal.returns-in-Csr
-returns-in-Csr c = rw c.in-Csr.is (record { vectors_after = refl; generals_after = refl; work_after = refl })
-
-pub returns-in-Branch : goal.returns-in-Branch
-returns-in-Branch c = rw c.in-Branch.is (record { vectors_after = refl; generals_after = refl; work_after = refl })

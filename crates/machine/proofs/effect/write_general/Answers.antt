@@ -3,10 +3,10 @@ use Rattle.machine.specs.Effect.{with_general}
 use Rattle.std.proofs.Common.{eq-eqb, ne_eqb}
 use Rattle.machine.proofs.effect.write_general.Goals as goal
 
-pub returns-then-n-eq0 : goal.returns-then-n-eq0
+pub returns-then-r-ne0 : goal.returns-then-r-ne0
 unfolding with_general
-returns-then-n-eq0 c = rw (eq-eqb _ _ c.if-n-eq0.true)
+returns-then-r-ne0 c = rw (ne_eqb _ _ c.if-r-ne0.true) c.put_eight.ensures
 
-pub returns-else-n-eq0 : goal.returns-else-n-eq0
+pub returns-else-r-ne0 : goal.returns-else-r-ne0
 unfolding with_general
-returns-else-n-eq0 c = rw (ne_eqb _ _ c.if-n-eq0.false) c.put_eight.ensures
+returns-else-r-ne0 c = rw (eq-eqb _ _ c.if-r-ne0.false)
