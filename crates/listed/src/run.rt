@@ -76,7 +76,10 @@ pub fn run(
             control: c,
         });
     }
-    let (Some(vectors), Some(generals)) = (vectors.as_mut_array(), generals.as_mut_array()) else {
+    let Some(vectors) = vectors.as_mut_array() else {
+        unreachable!()
+    };
+    let Some(generals) = generals.as_mut_array() else {
         unreachable!()
     };
     accepted(

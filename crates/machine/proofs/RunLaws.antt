@@ -25,7 +25,7 @@ module _ (e : Env) (m : Machine) (s : Stop) where
   abbrev Kept : Ending → Type 0
   Kept r = r.outcome ≡ Err s → r.after ≡ m
 
-  clash : {A : Type 0} → (Ok tt) ≡ Err s → A
+  clash : {A : Type 0} → ◌≡◌ {A = Result ⊤ Stop} (Ok tt) (Err s) → A
   clash h = let z : ◌≡◌ {A = ℕ} 0 1 = cc in absurd (omega arith)
 
   concluded-kept : (p : Plan) → Kept (concluded e.board.work p m)

@@ -22,6 +22,8 @@ pub fn end_of(
     ensures { result ≡ end_of program.now board table.now generals.now
         work.now c }
 {
-    let w = fetch::word_at(program, board.program, c.pc).ok_or(Stop::NoWord)?;
+    let Some(w) = fetch::word_at(program, board.program, c.pc) else {
+        return Err(Stop::NoWord);
+    };
     stop_ahead(ahead_of(w), board, table.len(), generals, work.len(), c)
 }

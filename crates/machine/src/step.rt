@@ -52,7 +52,10 @@ pub fn step(
             control: c,
         };
     }
-    let (Some(vectors), Some(generals)) = (vectors.as_mut_array(), generals.as_mut_array()) else {
+    let Some(vectors) = vectors.as_mut_array() else {
+        unreachable!()
+    };
+    let Some(generals) = generals.as_mut_array() else {
         unreachable!()
     };
     let e = turns(board, program, table, vectors, generals, work, c, 1);

@@ -2,13 +2,14 @@
 // way: so `advance` has one caller, and the compiler puts all of it into this loop.
 ghost use Rattle.std.specs.Prelude.{◌≡◌, length};
 ghost use Rattle.state.specs.Machine.{env, machine};
-ghost use Rattle.machine.specs.Run.{runs, RunIs, stepped_as};
+ghost use Rattle.machine.specs.Run.{runs, RunIs, outcome_in, stepped_as};
 
 use crate::advance::advance;
 use crate::run::{Ended, Reason};
 use crate::step::Stepped;
 use state::board::Board;
 use state::control::Control;
+use state::stops::Stop;
 
 // Steps until one stops or the budget is spent, for a set-up that was accepted.
 pub fn turns(
@@ -44,16 +45,22 @@ pub fn turns(
     }
 }
 
+// How a step ends that is made as a run of one instruction.
+fn outcome_in(e: Reason) -> Result<(), Stop>
+    ensures { result ≡ outcome_in e }
+{
+    match e {
+        Reason::Stopped(s) => Err(s),
+        Reason::Refused(_) | Reason::Spent => Ok(()),
+    }
+}
+
 // A run of one instruction as a step.
 pub fn as_step(e: Ended) -> Stepped
     ensures { result ≡ stepped_as e }
 {
-    let outcome = match e.reason {
-        Reason::Stopped(s) => Err(s),
-        Reason::Refused(_) | Reason::Spent => Ok(()),
-    };
     Stepped {
-        outcome,
+        outcome: outcome_in(e.reason),
         control: e.control,
     }
 }

@@ -1,11 +1,13 @@
 -- What fetching and set-up promise makes their answers the definitions'. Assumes nothing.
-use Rattle.std.proofs.Common.{◌≡◌, ℕ, List, refl, ap}
+use Rattle.std.proofs.Common.{◌≡◌, ℕ, List, sym, refl, ap, ◌∙◌}
 use Rattle.isa.specs.Numbers.{Said, number, values}
 use Rattle.isa.proofs.Apart.{apart}
 use Rattle.std.specs.Prelude.{Ok, Err, Some, None, Result, Option, ⊤}
 use Rattle.state.specs.declared.setup.Refusal.{Refusal}
 use Rattle.state.specs.Fetch.{fetched, fetched_said, Fetches}
-use Rattle.state.specs.Setup.{setup_number, Checks}
+use Rattle.state.specs.Machine.{Env, Machine}
+use Rattle.state.specs.Setup.{setup_number, refusal, Checks}
+use Rattle.state.proofs.SetupLaws.{Sized, accepted}
 use Rattle.state.proofs.Named.{Named, refused, stopped, neither, named, named-refusal}
 
 abbrev fetched_from : Said ℕ → Option ℕ
@@ -30,3 +32,8 @@ setup-back (Err r) = ap as_setup (named-refusal r 0)
 
 pub setup-is : {s r : Result ⊤ Refusal} → Checks s r → r ≡ s
 setup-is {s} {r} h = apart setup_number (λ n. as_setup (named n 0)) setup-back r s h.number
+
+-- a set-up that is checked and accepted has its sizes
+pub sized : (p : List ℕ) (e : Env) (m : Machine) {r : Result ⊤ Refusal} → Checks (refusal p e m) r → r ≡ Ok tt
+    → Sized e m
+sized p e m c o = accepted p e m (sym (setup-is c) ∙ o)

@@ -1,32 +1,37 @@
--- `listed::run::run`: refused, or run by `accepted`. It meets its contract.
-use Rattle.std.proofs.Common.{sym, refl, ◌∙◌}
+-- `listed::run::run`: refused, or run by `accepted` on register files of their sizes. It meets its contract.
+use Rattle.std.proofs.Common.{◌≡◌, sym, refl, ◌∙◌, rules}
 use Rattle.listed.proofs.FilledLaws.{stands}
-use Rattle.state.proofs.Said.{setup-is}
-use Rattle.state.proofs.SetupLaws as setup
+use Rattle.state.proofs.Said.{setup-is, sized}
 use Rattle.state.proofs.SetupLaws.{program-accepted}
 use Rattle.state.specs.Machine.{env, machine}
 use Rattle.listed.proofs.run.run.Goals as goal
 
+pub unreachable-requires : goal.unreachable-requires
+unreachable-requires c =
+    let a = c.args in
+    let m = machine a.vectors.now a.generals.now a.work.now a.c in
+    let long = (sized a.program.now (env a.board a.table.now) m c.check.ensures c.in_default.is).vectors in
+    search rules
+
+pub unreachable-requires-in_default-as_mut_array-2 : goal.unreachable-requires-in_default-as_mut_array-2
+unreachable-requires-in_default-as_mut_array-2 c =
+    let a = c.args in
+    let m = machine a.vectors.now a.generals.now a.work.now a.c in
+    let long = (sized a.program.now (env a.board a.table.now) m c.check.ensures c.in_default.is).generals in
+    search rules
+
 pub accepted-requires : goal.accepted-requires
 accepted-requires c =
     let a = c.args in
-    let e = env a.board a.table.now in
     let m = machine a.vectors.now a.generals.now a.work.now a.c in
-    let is = sym (setup-is c.check.ensures) ∙
-    c.in_default.is in
-    let sized = setup.accepted a.program.now e m is in (
-      sized.vectors,
-      sized.generals,
-      stands a.board.program a.program.now
-          (program-accepted a.program.now e m is),
-    )
+    stands a.board.program a.program.now
+    (program-accepted a.program.now (env a.board a.table.now) m (sym (setup-is c.check.ensures) ∙ c.in_default.is))
 
 pub returns : goal.returns
-returns c = rw (
-  ← setup-is
-      c.check.ensures,
-  c.in_default.is,
-) c.accepted.ensures
+returns c =
+    let vectors : c.in-Some.vectors.now ≡ c.args.vectors.now = search rules in
+    let generals : c.in-Some-as_mut_array.generals.now ≡ c.args.generals.now = search rules in
+    rw (← setup-is c.check.ensures, c.in_default.is, ← vectors, ← generals) c.accepted.ensures
 
 pub returns-in-Err : goal.returns-in-Err
 returns-in-Err c =

@@ -12,8 +12,8 @@ write_general-requires c =
     let f = rw c.in-General.is at c.requires in
     search rules
 
-pub overflow_sub : goal.overflow_sub
-overflow_sub c =
+pub overflow_sub-a : goal.overflow_sub-a
+overflow_sub-a c =
     let f = rw c.in-Store.is at c.requires in
     omega arith
 

@@ -2,6 +2,7 @@
 use Rattle.machine.proofs.RunLaws.{sofar-none, sofar-more, sofar-stopped, sofar-spent}
 use Rattle.machine.specs.Run.{runs}
 use Rattle.state.specs.Machine.{env, machine}
+use Rattle.std.proofs.Common.{◌≡◌, arith}
 use Rattle.machine.proofs.turns.turns.Goals as goal
 
 pub loop-count-init : goal.loop-count-init
@@ -36,4 +37,6 @@ returns c =
     let e = env a.board a.table.now in
     let m = machine l.vectors l.generals l.work l.control in
     let whole = runs a.program.now e a.budget (machine a.vectors.now a.generals.now a.work.now a.c) in
-    sofar-spent a.program.now e a.budget l.count m whole l.invariant c.loop-count-test.false
+    let all : l.count ≡ a.budget = omega (arith, l.auto.count-end, c.loop-count-test.false) in
+    let spent = sofar-spent a.program.now e a.budget l.count m whole l.invariant c.loop-count-test.false in
+    rw all at spent
