@@ -10,7 +10,7 @@ use isa::Width;
 pub fn pcnt(s: u64) -> u64
     ensures { result ≡ count.ones s }
 {
-    u64::count_ones(s) as u64
+    s.count_ones() as u64
 }
 
 // The zeros above the highest set bit of an element.
@@ -18,5 +18,5 @@ pub fn nlzc(w: Width, s: u64) -> u64
     requires { s < 2 ^ bits w }
     ensures { result ≡ count_leading_zeros (bits w) s }
 {
-    u64::leading_zeros(s) as u64 + count(w) - 64
+    s.leading_zeros() as u64 + count(w) - 64
 }

@@ -47,28 +47,14 @@ pub fn summed(w: Width, rounded: bool, minus: bool, d: u64, s: u64, t: u64) -> u
 pub fn rounds(op: Fixed) -> bool
     ensures { result ≡ parts.rounds op }
 {
-    match op {
-        Fixed::MulQ => false,
-        Fixed::MaddQ => false,
-        Fixed::MsubQ => false,
-        Fixed::MulrQ => true,
-        Fixed::MaddrQ => true,
-        Fixed::MsubrQ => true,
-    }
+    matches!(op, Fixed::MulrQ | Fixed::MaddrQ | Fixed::MsubrQ)
 }
 
 // Whether op subtracts the product.
 pub fn subtracts(op: Fixed) -> bool
     ensures { result ≡ parts.subtracts op }
 {
-    match op {
-        Fixed::MulQ => false,
-        Fixed::MaddQ => false,
-        Fixed::MsubQ => true,
-        Fixed::MulrQ => false,
-        Fixed::MaddrQ => false,
-        Fixed::MsubrQ => true,
-    }
+    matches!(op, Fixed::MsubQ | Fixed::MsubrQ)
 }
 
 // The old element: none for a product alone.
@@ -76,11 +62,7 @@ pub fn old(op: Fixed, d: u64) -> u64
     ensures { result ≡ parts.old op d }
 {
     match op {
-        Fixed::MulQ => 0,
-        Fixed::MaddQ => d,
-        Fixed::MsubQ => d,
-        Fixed::MulrQ => 0,
-        Fixed::MaddrQ => d,
-        Fixed::MsubrQ => d,
+        Fixed::MulQ | Fixed::MulrQ => 0,
+        _ => d,
     }
 }

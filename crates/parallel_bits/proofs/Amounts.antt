@@ -30,13 +30,6 @@ divides H = refl
 divides W = refl
 divides D = refl
 
--- a step by less than a byte
-pub small-step : (w : Width) (j : ℕ) → j < 3 → (j < bits w) × (2 ^ j < bits w)
-small-step w zero h = (omega (arith, wide w), omega (arith, wide w))
-small-step w (suc zero) h = (omega (arith, wide w), omega (arith, wide w))
-small-step w (suc (suc zero)) h = (omega (arith, wide w), omega (arith, wide w))
-small-step w (suc (suc (suc j))) h = absurd (omega arith)
-
 pub amount-mask : (w : Width) (e : ℕ) → bit_and e (bits w - 1) ≡ e % bits w
 amount-mask B e = and_mask e 3
 amount-mask H e = and_mask e 4

@@ -20,11 +20,8 @@ use Rattle.vectors.proofs.Sizes.{shares}
 use Rattle.parallel.specs.Lanes.{Lanes, Each1, Each2, Each3}
 use Rattle.parallel.proofs.Masked.{bit-times}
 use Rattle.parallel.proofs.Words.{own, same-lanes, field-lanes}
+use Rattle.parallel_bits.specs.Shift.{Shift}
 use Rattle.parallel_bits.proofs.Amounts.{sll-none, sll-more}
-
-pub record Shift (w : Width) (act : ℕ → ℕ → ℕ) : Type 0 where
-  pub none : (a : ℕ) → a < 2 ^ bits w → act a 0 ≡ a
-  pub more : (a j k : ℕ) → act (act a j) k ≡ act a (j + k)
 
 pub to-left : (w : Width) → Shift w (sll (bits w))
 to-left w = record { none = sll-none (bits w); more = sll-more (bits w) }

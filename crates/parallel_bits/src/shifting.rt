@@ -4,7 +4,7 @@ ghost use Rattle.std.specs.Prelude.{◌≡◌, ℕ, ◌/◌, ◌%◌, ◌^◌, �
 ghost use Rattle.isa.specs.Widths.{bits};
 ghost use Rattle.bits.specs.Shifts as shifts;
 ghost use Rattle.vectors.specs.Register.{element};
-ghost use Rattle.parallel.specs.Lanes.{Each1, Each2};
+ghost use Rattle.parallel.specs.Lanes.{Each1, Each2, Lanes};
 
 use super::steps::{left_each, right_each};
 use super::{amount, shr, sll, spread_word};
@@ -53,17 +53,28 @@ pub fn powers(w: Width, t: u64) -> u64
     }
 }
 
-// SRL and SRA. A negative element is shifted with its bits the other way round, so that ones come in at its top.
+// A shift to the right in a reading. A negative element is shifted with its bits the other way round, so that ones come
+// in at its top.
+fn in_reading<F: Fn(u64) -> u64>(w: Width, g: Reading, s: u64, shift: F) -> u64
+    requires { (x : ℕ) → F.pre shift x }
+    ensures { (k : ℕ → ℕ) → ((i : ℕ) → k i < bits w)
+        → ((x r : ℕ) → F.post shift x r → Lanes (bits w) r (λ i. element (bits w) x i / 2 ^ k i))
+        → Lanes (bits w) result (λ i. shifts.shift_right g (bits w) (element (bits w) s i) (k i)) }
+{
+    match g {
+        Reading::Unsigned => shift(s),
+        Reading::Signed => {
+            let m = filled(w, s);
+            shift(s ^ m) ^ m
+        }
+    }
+}
+
+// SRL and SRA.
 pub fn shift_right(w: Width, g: Reading, s: u64, t: u64) -> u64
     ensures { Each2 (bits w) result (λ a b. shifts.shift_right g (bits w) a (b % bits w)) s t }
 {
-    match g {
-        Reading::Unsigned => right(w, s, t),
-        Reading::Signed => {
-            let m = filled(w, s);
-            right(w, s ^ m, t) ^ m
-        }
-    }
+    in_reading(w, g, s, |x| right(w, x, t))
 }
 
 // The last bit of every element that the shift moves out: bit k of s moved up by one, which is 0 for k = 0.
@@ -89,13 +100,7 @@ fn floor(w: Width, g: Reading, s: u64, k: u64) -> u64
     requires { k < bits w }
     ensures { Each1 (bits w) result (λ a. shifts.shift_right g (bits w) a k) s }
 {
-    match g {
-        Reading::Unsigned => shr(w, s, k),
-        Reading::Signed => {
-            let m = filled(w, s);
-            shr(w, s ^ m, k) ^ m
-        }
-    }
+    in_reading(w, g, s, |x| shr(w, x, k))
 }
 
 fn last_of(w: Width, s: u64, k: u64) -> u64

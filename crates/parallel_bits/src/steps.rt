@@ -1,13 +1,14 @@
 // Shifts of each element by an amount of its own. Bytes go in steps: step j shifts by 2^j the elements whose amount has
 // bit j, and the amounts count modulo 8. Of wider elements a word has few, which go one by one.
-ghost use Rattle.std.specs.Prelude.{cond, ◌*◌, ◌/◌, ◌%◌, ◌^◌, ◌<◌, eqb};
+ghost use Rattle.std.specs.Prelude.{cond, ℕ, ◌*◌, ◌/◌, ◌%◌, ◌^◌, ◌<◌, eqb};
 ghost use Rattle.isa.specs.Widths.{bits};
 ghost use Rattle.bits.specs.Places.{bit_at};
 ghost use Rattle.bits.specs.Shifts as shifts;
-ghost use Rattle.parallel.specs.Lanes.{Each2, Each3};
+ghost use Rattle.parallel_bits.specs.Shift.{Shift};
+ghost use Rattle.parallel.specs.Lanes.{Each1, Each2, Each3};
 
 use super::{amount, shr, sll};
-use element::{low, ones, pow2};
+use element::{low, ones};
 use isa::Width;
 use parallel::{inverse, units};
 use vectors::{built, in_word};
@@ -21,32 +22,23 @@ fn by_bit(w: Width, j: u64, t: u64, clear: u64, set: u64) -> u64
     (set & m) | (clear & inverse(w, m))
 }
 
-fn step_left(w: Width, j: u64, s: u64, t: u64) -> u64
-    requires { (j < bits w) × (2 ^ j < bits w) }
-    ensures { Each2 (bits w) result (λ a b. shifts.sll (bits w) a (bit_at b j * 2 ^ j)) s t }
+// Every element by its amount modulo 8, in steps of a shift of all elements by one amount.
+fn mod_8<F: Fn(u64, u64) -> u64>(w: Width, s: u64, t: u64, shift: F) -> u64
+    requires { (x k : ℕ) → k < bits w → F.pre shift x k }
+    ensures { (act : ℕ → ℕ → ℕ) → Shift w act
+        → ((x k r : ℕ) → k < bits w → F.post shift x k r → Each1 (bits w) r (λ a. act a k) x)
+        → Each2 (bits w) result (λ a b. act a (b % 8)) s t }
 {
-    by_bit(w, j, t, s, sll(w, s, pow2(j)))
-}
-
-fn step_right(w: Width, j: u64, s: u64, t: u64) -> u64
-    requires { (j < bits w) × (2 ^ j < bits w) }
-    ensures { Each2 (bits w) result (λ a b. a / 2 ^ (bit_at b j * 2 ^ j)) s t }
-{
-    by_bit(w, j, t, s, shr(w, s, pow2(j)))
-}
-
-// By the amounts modulo 8.
-fn left_mod_8(w: Width, s: u64, t: u64) -> u64
-    ensures { Each2 (bits w) result (λ a b. shifts.sll (bits w) a (b % 8)) s t }
-{
-    step_left(w, 2, step_left(w, 1, step_left(w, 0, s, t), t), t)
+    let one = by_bit(w, 0, t, s, shift(s, 1));
+    let two = by_bit(w, 1, t, one, shift(one, 2));
+    by_bit(w, 2, t, two, shift(two, 4))
 }
 
 pub fn left_each(w: Width, s: u64, t: u64) -> u64
     ensures { Each2 (bits w) result (λ a b. shifts.sll (bits w) a (b % bits w)) s t }
 {
     match w {
-        Width::B => left_mod_8(w, s, t),
+        Width::B => mod_8(w, s, t, |x, k| sll(w, x, k)),
         _ => built(
             w,
             |w, i| low(w, in_word(w, s, i) << amount(w, in_word(w, t, i))),
@@ -54,18 +46,11 @@ pub fn left_each(w: Width, s: u64, t: u64) -> u64
     }
 }
 
-// By the amounts modulo 8.
-fn right_mod_8(w: Width, s: u64, t: u64) -> u64
-    ensures { Each2 (bits w) result (λ a b. a / 2 ^ (b % 8)) s t }
-{
-    step_right(w, 2, step_right(w, 1, step_right(w, 0, s, t), t), t)
-}
-
 pub fn right_each(w: Width, s: u64, t: u64) -> u64
     ensures { Each2 (bits w) result (λ a b. a / 2 ^ (b % bits w)) s t }
 {
     match w {
-        Width::B => right_mod_8(w, s, t),
+        Width::B => mod_8(w, s, t, |x, k| shr(w, x, k)),
         _ => built(w, |w, i| in_word(w, s, i) >> amount(w, in_word(w, t, i))),
     }
 }

@@ -12,7 +12,7 @@ ghost use Rattle.products.specs.Operations.{across_of};
 ghost use Rattle.vectors.specs.Register.{element};
 ghost use Rattle.parallel.specs.Lanes.{Each1, Each2, Lanes};
 
-use element::Reading;
+use element::{Reading, count};
 use isa::{Across, Width};
 use parallel::{flipped, tops};
 
@@ -20,12 +20,7 @@ use parallel::{flipped, tops};
 fn part(w: Width) -> u64
     ensures { result ≡ bits w / 2 }
 {
-    match w {
-        Width::B => 4,
-        Width::H => 8,
-        Width::W => 16,
-        Width::D => 32,
-    }
+    count(w) / 2
 }
 
 // Ones in the low half of every element.

@@ -1,0 +1,2 @@
+-- The definition that a contract of `parallel_bits` cites.
+pub mod Shift
