@@ -3,7 +3,8 @@ use mathlib.Core.Path.{◌≡◌, refl, sym, ap, ◌∙◌}
 use mathlib.Core.Bool.{Bool, true, false}
 use mathlib.Core.List.{List, [], ◌∷◌}
 use Prim.Native.Nat.{ℕ, zero, suc, ◌+◌, ◌-◌, ◌*◌, ◌/◌, ◌%◌, ◌^◌, ◌≤◌, ◌<◌}
-use native.Mathlib.Nat.{add_comm, mod-lt, mod-one, mod-eq_of_lt, mul_comm, mul_assoc, mul-add-div_right, mul-add-mod_self_right}
+use native.Mathlib.Nat.{add_comm, mod-lt, mod-one, mod-eq_of_lt, mul_comm, mul_assoc, mul-add-div_right}
+use native.Mathlib.Nat.{mul-add-mod_self_right}
 use native.Mathlib.Omega.{arith}
 use borrow.Author.Tests.{ltb-true, lt-ltb, le-ltb}
 use lib.Arith.{digits_lt}
@@ -22,7 +23,8 @@ both_right true b e = e
 both_right false b e = absurd (let z : ◌≡◌ {A = ℕ} 0 1 = cc in omega arith)
 
 -- what holds of both answers of a test holds of the one it picks
-pub pick-elim : {A : Type 0} (P : A → Type 0) (b : Bool) (x y : A) → (b ≡ true → P x) → (b ≡ false → P y) → P (pick b x y)
+pub pick-elim : {A : Type 0} (P : A → Type 0) (b : Bool) (x y : A) → (b ≡ true → P x) → (b ≡ false → P y)
+    → P (pick b x y)
 pick-elim P true x y f g = f refl
 pick-elim P false x y f g = g refl
 
@@ -120,7 +122,8 @@ module _ (ns vs : List ℕ) (i : ℕ) (some : 0 < i) (hn : i ≤ length ns) (hv 
   pub width_fits : get_or ns (i - 1) 0 + total (drop i ns) ≤ total ns
   width_fits = rw (drop-before ns hn) at (total-drop ns (i - 1))
 
-  pub word-step : word_of (drop i ns) (drop i vs) + get_or vs (i - 1) 0 * 2 ^ total (drop i ns) ≡ word_of (drop (i - 1) ns) (drop (i - 1) vs)
+  pub word-step : word_of (drop i ns) (drop i vs) + get_or vs (i - 1) 0 * 2 ^ total (drop i ns)
+      ≡ word_of (drop (i - 1) ns) (drop (i - 1) vs)
   word-step = rw (drop-before ns hn, drop-before vs hv) (add_comm _ _)
 
   pub scale-step : 2 ^ total (drop i ns) * 2 ^ get_or ns (i - 1) 0 ≡ 2 ^ total (drop (i - 1) ns)

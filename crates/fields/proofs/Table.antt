@@ -1,4 +1,5 @@
--- A table's rule: one computed test of every entry with its place, and the law that turns it into the rule at each place.
+-- A table's rule: one computed test of every entry with its place, and the law that turns it into the rule at each
+-- place.
 -- Assumes nothing.
 use mathlib.Core.Path.{◌≡◌, ◌∙◌, sym, subst}
 use mathlib.Core.Bool.{Bool, true}
@@ -19,7 +20,8 @@ module _ {A : Type 0} where
   module _ (f : ℕ → A → Bool) (d : A) (past : (k : ℕ) → f k d ≡ true) where
     from : (xs : List A) (i : ℕ) → every f i xs ≡ true → (k : ℕ) → f (i + k) (get_or xs k d) ≡ true
     from [] i t k = past (i + k)
-    from (x ∷ xs) i t zero = subst (λ (m : ℕ). f m x ≡ true) (sym (add-zero i)) (both_left (f i x) (every f (suc i) xs) t)
+    from (x ∷ xs) i t zero = subst (λ (m : ℕ). f m x
+        ≡ true) (sym (add-zero i)) (both_left (f i x) (every f (suc i) xs) t)
     from (x ∷ xs) i t (suc k) =
         subst (λ (m : ℕ). f m (get_or xs k d) ≡ true) (suc-add i k ∙ sym (add-suc i k))
         (from xs (suc i) (both_right (f i x) (every f (suc i) xs) t) k)

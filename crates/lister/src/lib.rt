@@ -1,4 +1,5 @@
-// Lists the little-endian words of an input, base 0: one line a word, then what is left over. A library, so that the gate can run it on
+// Lists the little-endian words of an input, base 0: one line a word, then what is left over. A library, so that the
+// gate can run it on
 // more than one input: the programs `list` and `list_long` do nothing else.
 #![tactic(auto)]
 

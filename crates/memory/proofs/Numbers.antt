@@ -10,7 +10,8 @@ use lib.Seq.{take-add, take-length, drop-drop}
 use Rattle.memory.specs.Bytes.{part, replaced, number, bytes_of, AreBytes}
 use Rattle.memory.proofs.Parts.{get_d_part, length_part, part-cons, replaced-beside}
 use Rattle.std.proofs.Math.Nat.{pow-suc, div-div-eq-div-mul}
-use Rattle.std.specs.Int.{Width, w8, w16, w32, w64, w128, byte_len, byte_at, byte_worth, bytes_low_first, sum_through, to_le_bytes, from_le_bytes}
+use Rattle.std.specs.Int.{Width, w8, w16, w32, w64, w128, byte_len, byte_at, byte_worth, bytes_low_first, sum_through}
+use Rattle.std.specs.Int.{to_le_bytes, from_le_bytes}
 
 pub length-bytes_of : (n x : ℕ) → length (bytes_of n x) ≡ n
 unfolding bytes_of
@@ -65,7 +66,8 @@ number-parts s at a b h =
     ∙ number_append (part s at a) (take b (drop a (drop at s)))
     ∙ ap₂ (λ m l. number (part s at a) + number (take b l) * 2 ^ (8 * m)) long (drop-drop a at s)
 
-pub bytes_of-append : (a b x y : ℕ) → x < 2 ^ (8 * a) → bytes_of (a + b) (x + y * 2 ^ (8 * a)) ≡ bytes_of a x ++ bytes_of b y
+pub bytes_of-append : (a b x y : ℕ) → x < 2 ^ (8 * a)
+    → bytes_of (a + b) (x + y * 2 ^ (8 * a)) ≡ bytes_of a x ++ bytes_of b y
 unfolding bytes_of
 bytes_of-append zero b x y h =
     let size : 0 + b ≡ b = omega arith in
@@ -88,7 +90,8 @@ pub number-one : (s : List ℕ) (at : ℕ) → at < length s → number (part s 
 unfolding number
 number-one s at h = ap number (part-cons s at 0 h) ∙ omega arith
 
-number_of-first : (s : List ℕ) (k : ℕ) → k < length s → sum_through (λ i. byte_worth i (get_or s i 0)) k ≡ number (part s 0 (suc k))
+number_of-first : (s : List ℕ) (k : ℕ) → k < length s
+    → sum_through (λ i. byte_worth i (get_or s i 0)) k ≡ number (part s 0 (suc k))
 number_of-first s zero h = sym (number-one s 0 h)
 number_of-first s (suc k) h =
     let size : suc (suc k) ≡ suc k + 1 = omega arith in
@@ -96,7 +99,8 @@ number_of-first s (suc k) h =
     ap₂ (λ b n. b + get_or s (suc k) 0 * n) (number_of-first s k (omega arith)) (pow_256 (suc k))
     ∙ sym (ap (λ n. number (part s 0 n)) size
     ∙ number-parts s 0 (suc k) 1 (omega arith)
-    ∙ ap (λ n. number (part s 0 (suc k)) + n * 2 ^ (8 * suc k)) (ap (λ n. number (part s n 1)) start ∙ number-one s (suc k) h))
+    ∙ ap (λ n. number (part s 0 (suc k)) + n * 2 ^ (8 * suc k)) (ap (λ n. number (part s n 1)) start
+    ∙ number-one s (suc k) h))
 
 from_le : (w : Width) (s : List ℕ) → length s ≡ byte_len w → from_le_bytes w s ≡ number s
 from_le w s h = elim w as (λ v. length s ≡ byte_len v → from_le_bytes v s ≡ number s) [
@@ -111,16 +115,19 @@ from_le w s h = elim w as (λ v. length s ≡ byte_len v → from_le_bytes v s �
     whole k e = number_of-first s k (omega arith) ∙ ap (λ n. number (take n s)) (sym e) ∙ ap number (take-length s)
 
 -- what std reads of a part
-pub number_read : (w : Width) (s : List ℕ) (at : ℕ) {b : List ℕ} {n : ℕ} → n ≡ from_le_bytes w b → b ≡ part s at (byte_len w)
+pub number_read : (w : Width) (s : List ℕ) (at : ℕ) {b : List ℕ} {n : ℕ} → n ≡ from_le_bytes w b
+    → b ≡ part s at (byte_len w)
     → at + byte_len w ≤ length s → n ≡ number (part s at (byte_len w))
-number_read w s at e bytes fits = e ∙ from_le w _ (ap length bytes ∙ length_part s at (byte_len w) fits) ∙ ap number bytes
+number_read w s at e bytes fits = e ∙ from_le w _ (ap length bytes ∙ length_part s at (byte_len w) fits)
+    ∙ ap number bytes
 
 bytes_from : (i k x : ℕ) → bytes_low_first i k x ≡ bytes_of k (x / 256 ^ i)
 unfolding bytes_of
 bytes_from i zero x = refl
 bytes_from i (suc k) x =
     ap₂ ◌∷◌ (byte i)
-    (bytes_from (suc i) k x ∙ ap (λ n. bytes_of k (x / n)) (pow-suc 256 i) ∙ ap (bytes_of k) (sym (div-div-eq-div-mul x (256 ^ i) 256)))
+    (bytes_from (suc i) k x ∙ ap (λ n. bytes_of k (x / n)) (pow-suc 256 i)
+    ∙ ap (bytes_of k) (sym (div-div-eq-div-mul x (256 ^ i) 256)))
   where
     byte : (i : ℕ) → byte_at i x ≡ x / 256 ^ i % 256
     byte zero = omega arith
@@ -131,7 +138,8 @@ to_le w x = bytes_from 0 (byte_len w) x ∙ ap (bytes_of (byte_len w)) (omega ar
 
 -- the bytes of one number written beside those of another
 pub replaced-two : (d : List ℕ) (at a b x y : ℕ) → at + a ≤ length d → x < 2 ^ (8 * a)
-    → replaced (replaced d at (bytes_of a x)) (at + a) (bytes_of b y) ≡ replaced d at (bytes_of (a + b) (x + y * 2 ^ (8 * a)))
+    → replaced (replaced d at (bytes_of a x)) (at + a) (bytes_of b y)
+    ≡ replaced d at (bytes_of (a + b) (x + y * 2 ^ (8 * a)))
 replaced-two d at a b x y h small =
     ap (λ n. replaced (replaced d at (bytes_of a x)) (at + n) (bytes_of b y)) (sym (length-bytes_of a x))
     ∙ replaced-beside d at (bytes_of a x) (omega (arith, length-bytes_of a x)) (bytes_of b y)

@@ -1,4 +1,5 @@
--- Parts of a list of bytes: what a part is after a replacement, byte by byte and whole, and two replacements side by side.
+-- Parts of a list of bytes: what a part is after a replacement, byte by byte and whole, and two replacements side by
+-- side.
 use mathlib.Core.Path.{◌≡◌, refl, sym, ap, ap₂, ◌∙◌}
 use mathlib.Core.List.{List, [], ◌∷◌, ◌++◌, append_assoc}
 use Prim.Native.Nat.{ℕ, zero, suc, ◌+◌, ◌-◌, ◌≤◌, ◌<◌}
@@ -17,7 +18,8 @@ length_part s at n h = simp (length-take, length-drop) (omega arith)
 pub part-cons : (s : List ℕ) (at n : ℕ) → at < length s → part s at (suc n) ≡ get_or s at 0 ∷ part s (at + 1) n
 part-cons s at n h = rw (drop-cons s at 0 h, add-one)
 
-part-next : (s : List ℕ) (at k n : ℕ) → at + k < length s → part s (at + k) (suc n) ≡ get_or s (at + k) 0 ∷ part s (at + suc k) n
+part-next : (s : List ℕ) (at k n : ℕ) → at + k < length s
+    → part s (at + k) (suc n) ≡ get_or s (at + k) 0 ∷ part s (at + suc k) n
 part-next s at k n h = rw (drop-cons s (at + k) 0 h, ← add-suc)
 
 -- past the end there are no bytes
@@ -38,7 +40,8 @@ same-part s₁ s₂ i j n h₁ h₂ f =
     get_d_part s₁ i n k l ∙ f k l ∙ sym (get_d_part s₂ j n k l))
 
 -- a write to `d[at..at + k]` is the replacement by what is written
-pub replaced-mid : (d : List ℕ) (at : ℕ) {k : ℕ} {s t : List ℕ} → s ≡ t → k ≡ length t → put_mid at k d s ≡ replaced d at t
+pub replaced-mid : (d : List ℕ) (at : ℕ) {k : ℕ} {s t : List ℕ} → s ≡ t → k ≡ length t
+    → put_mid at k d s ≡ replaced d at t
 unfolding replaced
 replaced-mid d at {t = t} e l =
     ap₂ (λ n s. take at d ++ (s ++ drop n (drop at d))) l e

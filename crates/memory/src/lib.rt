@@ -1,4 +1,5 @@
-// Bytes at a place of lent memory, and the little-endian numbers that they spell: four bytes a program word, eight a general register,
+// Bytes at a place of lent memory, and the little-endian numbers that they spell: four bytes a program word, eight a
+// general register,
 // sixteen a vector register. A register of 128 bits goes by value, in two words.
 #![tactic(auto)]
 

@@ -39,7 +39,8 @@ found m [] h = absurd (omega arith)
 found m (n ∷ ns) h = go (eqb n m) refl h (λ l. found m ns l)
   where
     go : (b : Bool) → eqb n m ≡ b → cond b 0 (suc (before m ns)) < suc (length ns)
-        → (before m ns < length ns → get_or ns (before m ns) 0 ≡ m) → get_or (n ∷ ns) (cond b 0 (suc (before m ns))) 0 ≡ m
+        → (before m ns < length ns → get_or ns (before m ns) 0 ≡ m)
+        → get_or (n ∷ ns) (cond b 0 (suc (before m ns))) 0 ≡ m
     go true e h next = eqb-true n m e
     go false e h next = next (omega arith)
 

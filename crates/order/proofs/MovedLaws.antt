@@ -82,7 +82,8 @@ exchanges x n m some l small = record { below = within; at = byte }
         or_lt 64 _ _ down (mod-lt y (pow_pos 64))
 
     either : (t : Bool) (c b : ℕ)
-        → bit_or (cond (not t) (element 8 x (n + b)) 0) (cond t (element 8 x c) 0) ≡ element 8 x (cond (not t) (n + b) c)
+        → bit_or (cond (not t) (element 8 x (n + b)) 0) (cond t (element 8 x c) 0)
+            ≡ element 8 x (cond (not t) (n + b) c)
     either true c b = or_zero_l (element 8 x c)
     either false c b = or_zero_r (element 8 x (n + b))
 

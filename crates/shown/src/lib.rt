@@ -14,14 +14,14 @@ use crate::classes::{
 use isa::{Creg, Greg, Instr, Vreg, Width};
 
 // A number with its sign.
-#[derive(Clone, Copy)]
+#[derive(Clone, Copy, Debug, PartialEq, Eq)]
 pub struct Number {
     pub minus: bool,
     pub size: u16,
 }
 
 // What stands behind the mnemonic: nothing, a data format, or .V.
-#[derive(Clone, Copy)]
+#[derive(Clone, Copy, Debug, PartialEq, Eq)]
 pub enum Form {
     Bare,
     Each(Width),
@@ -29,7 +29,7 @@ pub enum Form {
 }
 
 // One operand: $w1, $1, $1, -1, $w1[2], $w1[$2], -8($1).
-#[derive(Clone, Copy)]
+#[derive(Clone, Copy, Debug, PartialEq, Eq)]
 pub enum Operand {
     Nothing,
     Vector(Vreg),
@@ -42,7 +42,7 @@ pub enum Operand {
 }
 
 // The place of the operation in the table, the format, and up to four operands.
-#[derive(Clone, Copy)]
+#[derive(Clone, Copy, Debug, PartialEq, Eq)]
 pub struct Shown {
     pub name: u16,
     pub form: Form,

@@ -14,7 +14,8 @@ module _ (base : ℕ) (short : Bool) where
   pub none : (most n : ℕ) → most ≡ 0 → [] ≡ numeral base short most n
   none most n e = rw e
 
-  pub last : (most n : ℕ) → (most ≡ 0 → ⊥) → both short (ltb n base) ≡ true → digit (n % base) ∷ [] ≡ numeral base short most n
+  pub last : (most n : ℕ) → (most ≡ 0 → ⊥) → both short (ltb n base) ≡ true
+      → digit (n % base) ∷ [] ≡ numeral base short most n
   last zero n h e = absurd (h refl)
   last (suc k) n h e = rw e
 

@@ -11,7 +11,8 @@ use Rattle.text.specs.Text.{Room, Puts}
 
 sets-append : (l : List ℕ) (k : ℕ) (s t : List ℕ) → sets l k (s ++ t) ≡ sets (sets l k s) (k + length s) t
 sets-append l k [] t = ap (λ (n : ℕ). sets l n t) (sym (add-zero k))
-sets-append l k (x ∷ s) t = sets-append _ (suc k) s t ∙ ap (λ (n : ℕ). sets (sets l k (x ∷ s)) n t) (suc-add k (length s) ∙ sym (add-suc k (length s)))
+sets-append l k (x ∷ s) t = sets-append _ (suc k) s t
+    ∙ ap (λ (n : ℕ). sets (sets l k (x ∷ s)) n t) (suc-add k (length s) ∙ sym (add-suc k (length s)))
 
 pub puts_none : (l : List ℕ) (k : ℕ) → Puts l k [] l k
 puts_none l k = record { place = sym (add-zero k); line = refl }
@@ -33,11 +34,14 @@ puts-as {l} {m} {s} {t} {k} {p} e h = subst (λ (x : List ℕ). Puts l k x m p) 
 
 pub puts_then : {l m n s t : List ℕ} {k p q : ℕ} → Puts l k s m p → Puts m p t n q → Puts l k (s ++ t) n q
 puts_then {l} {m} {n} {s} {t} {k} {p} {q} f g = record {
-  place = g.place ∙ ap (λ (x : ℕ). x + length t) f.place ∙ add_assoc k (length s) (length t) ∙ ap (λ (x : ℕ). k + x) (sym (length-append s t));
-  line = g.line ∙ ap (λ (x : List ℕ). sets x p t) f.line ∙ ap (λ (x : ℕ). sets (sets l k s) x t) f.place ∙ sym (sets-append l k s t);
+  place = g.place ∙ ap (λ (x : ℕ). x + length t) f.place ∙ add_assoc k (length s) (length t)
+      ∙ ap (λ (x : ℕ). k + x) (sym (length-append s t));
+  line = g.line ∙ ap (λ (x : List ℕ). sets x p t) f.line ∙ ap (λ (x : ℕ). sets (sets l k s) x t) f.place
+      ∙ sym (sets-append l k s t);
 }
 
-pub puts_four : {l m₁ m₂ m₃ n s t u v : List ℕ} {k p₁ p₂ p₃ q : ℕ} → Puts l k s m₁ p₁ → Puts m₁ p₁ t m₂ p₂ → Puts m₂ p₂ u m₃ p₃ → Puts m₃ p₃ v n q
+pub puts_four : {l m₁ m₂ m₃ n s t u v : List ℕ} {k p₁ p₂ p₃ q : ℕ} → Puts l k s m₁ p₁ → Puts m₁ p₁ t m₂ p₂
+    → Puts m₂ p₂ u m₃ p₃ → Puts m₃ p₃ v n q
     → Puts l k (s ++ t ++ u ++ v) n q
 puts_four f g h i = puts_then (puts_then (puts_then f g) h) i
 

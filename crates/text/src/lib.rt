@@ -1,4 +1,5 @@
-// Pieces of text put into a lent line, each from a place on. Each answers the place behind it, so a line is a run of these.
+// Pieces of text put into a lent line, each from a place on. Each answers the place behind it, so a line is a run of
+// these.
 #![tactic(auto)]
 
 ghost use Rattle.std.specs.Prelude.{◌≡◌, [], ◌∷◌, ◌<◌, ◌≤◌, length, replicate};

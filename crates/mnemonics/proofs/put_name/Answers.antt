@@ -1,5 +1,6 @@
 -- `mnemonics::put_name` meets its contract: the part of the text that is the name, as long as the digit before it says.
-use Rattle.std.proofs.Common.{◌≡◌, ◌+◌, ◌-◌, ◌*◌, ◌/◌, ◌%◌, ◌<◌, ◌≤◌, ℕ, arith, rules, get_or, length, take, drop, sym, ap, ◌∙◌}
+use Rattle.std.proofs.Common.{◌≡◌, ◌+◌, ◌-◌, ◌*◌, ◌/◌, ◌%◌, ◌<◌, ◌≤◌, ℕ, arith, rules, get_or, length, take, drop, sym}
+use Rattle.std.proofs.Common.{ap, ◌∙◌}
 use Rattle.text.proofs.Puts.{puts_none, puts-as, room_as}
 use Rattle.ops.specs.Table.{row_at, mnemonic}
 use Rattle.ops.proofs.Names.{name-short}
