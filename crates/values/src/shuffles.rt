@@ -10,14 +10,15 @@ ghost use Rattle.entries.specs.Cut.{width_of, flag_of, dest_of, source_of, third
 ghost use Rattle.acts.specs.Act.{vreg};
 
 use crate::operands::{dest, source, third};
+use crate::words::by_words;
 use entries::parts::{flag_of, source_of, third_of, width_of};
 use isa::Vreg;
 use memory::Register;
 use permute::filed::chosen_in;
 use permute::vshf;
-use vectors::words::by_words;
 
-pub fn shuffled(e: u64, vectors: &[u8; 512]) -> Register
+pub fn shuffled(e: u64, vectors: &[u8]) -> Register
+    requires { length vectors.now ≡ 512 }
     ensures { let file = vectors.now in let n = bits (width_of e) in
         result ≡ register (whole n (chosen_by_control n (register_at file (vreg (dest_of e)))
         (register_at file (vreg (source_of e)))
@@ -30,5 +31,5 @@ pub fn shuffled(e: u64, vectors: &[u8; 512]) -> Register
     }
     let s = Vreg(source_of(e));
     let t = Vreg(third_of(e));
-    by_words(d, d, |d, _| chosen_in(w, d, vectors, s, t))
+    by_words!(d => chosen_in(w, d, vectors, s, t))
 }
