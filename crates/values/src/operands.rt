@@ -36,32 +36,28 @@ pub fn spread(w: Width, x: u64) -> Register
 }
 
 // The register d.
-pub(crate) fn dest(e: u64, vectors: &[u8]) -> Register
-    requires { length vectors.now ≡ 512 }
+pub(crate) fn dest(e: u64, vectors: &[u8; 512]) -> Register
     ensures { Holds result (register_at vectors.now (vreg (dest_of e))) }
 {
     read_register(vectors, Vreg(dest_of(e)))
 }
 
 // The register s.
-pub(crate) fn source(e: u64, vectors: &[u8]) -> Register
-    requires { length vectors.now ≡ 512 }
+pub(crate) fn source(e: u64, vectors: &[u8; 512]) -> Register
     ensures { Holds result (register_at vectors.now (vreg (source_of e))) }
 {
     read_register(vectors, Vreg(source_of(e)))
 }
 
 // The register t.
-pub(crate) fn last(e: u64, vectors: &[u8]) -> Register
-    requires { length vectors.now ≡ 512 }
+pub(crate) fn last(e: u64, vectors: &[u8; 512]) -> Register
     ensures { Holds result (register_at vectors.now (vreg (third_of e))) }
 {
     read_register(vectors, Vreg(third_of(e)))
 }
 
 // The register t, or the immediate in every element.
-pub fn third(e: u64, vectors: &[u8]) -> Register
-    requires { length vectors.now ≡ 512 }
+pub fn third(e: u64, vectors: &[u8; 512]) -> Register
     ensures { Holds result (cond (flag_of e) (filled (bits (width_of e)) (extended_of e))
         (register_at vectors.now (vreg (third_of e)))) }
 {
@@ -73,8 +69,7 @@ pub fn third(e: u64, vectors: &[u8]) -> Register
 }
 
 // The general register of a number, or the immediate.
-pub fn scalar(e: u64, r: u8, generals: &[u8]) -> u64
-    requires { length generals.now ≡ 256 }
+pub fn scalar(e: u64, r: u8, generals: &[u8; 256]) -> u64
     ensures { result ≡ cond (flag_of e) (extended_of e) (general_at generals.now (greg r)) }
 {
     if flag_of(e) {
@@ -85,8 +80,7 @@ pub fn scalar(e: u64, r: u8, generals: &[u8]) -> u64
 }
 
 // INSVE's element of the source s, or INSERT's general register.
-pub fn inserted(e: u64, s: Register, generals: &[u8]) -> u64
-    requires { length generals.now ≡ 256 }
+pub fn inserted(e: u64, s: Register, generals: &[u8; 256]) -> u64
     ensures { result ≡ cond (flag_of e) (element (bits (width_of e)) (value s) 0)
         (general_at generals.now (greg (source_of e))) }
 {

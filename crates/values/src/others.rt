@@ -34,8 +34,7 @@ fn narrow(e: u64) -> Width
     if e / 256 % 4 == 1 { Width::H } else { Width::W }
 }
 
-fn multiplied(op: Fixed, e: u64, vectors: &[u8]) -> Register
-    requires { length vectors.now ≡ 512 }
+fn multiplied(op: Fixed, e: u64, vectors: &[u8; 512]) -> Register
     ensures { let file = vectors.now in
         result ≡ register (fixed_of op (bits (narrow_of e)) (register_at file (vreg (dest_of e)))
         (register_at file (vreg (source_of e))) (register_at file (vreg (third_of e)))) }
@@ -47,8 +46,7 @@ fn multiplied(op: Fixed, e: u64, vectors: &[u8]) -> Register
     by_words!(d, s, t => fixed(op, v, d, s, t))
 }
 
-pub fn other(e: u64, vectors: &[u8], generals: &[u8]) -> Register
-    requires { (length vectors.now ≡ 512) × (length generals.now ≡ 256) }
+pub fn other(e: u64, vectors: &[u8; 512], generals: &[u8; 256]) -> Register
     ensures { (work : List ℕ) (c : Control) → result ≡ register
         (value_of (machine vectors.now generals.now work c) e) }
 {

@@ -18,8 +18,8 @@ use parallel::{clipped, compares, means, wrapping};
 use parallel_bits::{places, shifting};
 use permute::vshf;
 
-pub fn quick(e: u64, s: Register, t: Register, vectors: &[u8]) -> Register
-    requires { (length vectors.now ≡ 512) × (8 ≤ code_of e) × (code_of e < 56) }
+pub fn quick(e: u64, s: Register, t: Register, vectors: &[u8; 512]) -> Register
+    requires { (8 ≤ code_of e) × (code_of e < 56) }
     ensures { result ≡ register (vector_of (code_of e) (bits (width_of e))
         (register_at vectors.now (vreg (dest_of e))) (value s) (value t)) }
 {

@@ -17,8 +17,7 @@ use memory::Register;
 use permute::filed::chosen_in;
 use permute::vshf;
 
-pub fn shuffled(e: u64, vectors: &[u8]) -> Register
-    requires { length vectors.now ≡ 512 }
+pub fn shuffled(e: u64, vectors: &[u8; 512]) -> Register
     ensures { let file = vectors.now in let n = bits (width_of e) in
         result ≡ register (whole n (chosen_by_control n (register_at file (vreg (dest_of e)))
         (register_at file (vreg (source_of e)))

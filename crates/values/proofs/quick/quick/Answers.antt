@@ -247,7 +247,7 @@ unfolding vector_of three_at each_lane
 returns-in_default c = let k = c.code_of.result in
     let code = c.code_of.ensures.0 in
     let none : bare k ≡ true =
-    left_over bare 8 56 codes refl k (rw code c.requires.1) (rw code c.requires.2) c.in_default.in_default-own.rest in
+    left_over bare 8 56 codes refl k (rw code c.requires.0) (rw code c.requires.1) c.in_default.in_default-own.rest in
     chosen3 _ {c = k} refl (search rules) c.width_of-w.ensures
     c.dest.ensures
     (λ n d s t. unassigned k n d s t none) c.vshf.ensures
