@@ -4,7 +4,6 @@ ghost use Rattle.entries.specs.Cut.{code_of, width_of, flag_of, dest_of, source_
 
 use isa::Width;
 use isa::widths::width_at;
-use std::num::wrapping_sub_u64;
 
 pub fn code_of(e: u64) -> u64
     ensures { (result ≡ code_of e) × (result < 256) }
@@ -53,5 +52,5 @@ pub fn extended(e: u64) -> u64
     ensures { result ≡ extended_of e }
 {
     let x = imm_of(e);
-    wrapping_sub_u64((x + 2147483648) % 4294967296, 2147483648)
+    ((x + 2147483648) % 4294967296).wrapping_sub(2147483648)
 }

@@ -31,15 +31,6 @@ neither k h i j = go (ltb k 2) refl
     go false e = let two = ltb-false k 2 e in switched k (omega arith)
 
 -- with the unit on, a branch goes on where the mark is clear, and else stops
-pub clear-goes : (k : Mark) (p : Plan) → k ≡ Clear → unless (branch_early k true) p ≡ p
-clear-goes k p e = ap (λ j. unless (branch_early j true) p) e
-
-pub slot-stops : (k : Mark) (p : Plan) → k ≡ NotTaken → unless (branch_early k true) p ≡ plan.Stop stop.BranchInSlot
-slot-stops k p e = ap (λ j. unless (branch_early j true) p) e
-
-pub slot-stops-taken : (k : Mark) (p : Plan) {t : ℕ} → k ≡ Taken t
-    → unless (branch_early k true) p ≡ plan.Stop stop.BranchInSlot
-slot-stops-taken k p e = ap (λ j. unless (branch_early j true) p) e
 
 -- VSHF stands at code 80
 pub shuffles : (n d s t : ℕ) → vector_of 80 n d s t ≡ whole n (chosen_by_control n d s t)

@@ -23,6 +23,7 @@ use memory::Register;
 use memory::file::{read_register, write_register};
 use order::turn;
 use plan::branch::mark_of;
+use plan::early::branch_early;
 use plan::moves;
 use plan::scaled::scaled_of;
 use plan::zero::{taken, taken_v};
@@ -30,7 +31,6 @@ use state::board::Board;
 use state::control::{Control, Mark};
 use state::stops::Stop;
 use state::windows::{Spot, locate};
-use std::num::wrapping_add_u64;
 
 // A finished step that sets no slot mark.
 pub fn finished(c: Control) -> Stepped
@@ -46,7 +46,7 @@ pub fn finished(c: Control) -> Stepped
 fn address_of(e: u64, generals: &[u8; 256]) -> u64
     ensures { result ≡ (general_at generals.now (greg (source_of e)) + extended_of e) % 2 ^ 64 }
 {
-    wrapping_add_u64(moves::general(generals, Greg(source_of(e))), extended(e))
+    moves::general(generals, Greg(source_of(e))).wrapping_add(extended(e))
 }
 
 fn load(
@@ -63,16 +63,15 @@ fn load(
         (machine vectors.old g work.now c))
         result vectors.new g work.now }
 {
-    let order = board.order;
     let w = width_of(e);
     let d = Vreg(dest_of(e));
     match locate(board, table.len(), work.len(), a) {
         Spot::Table(i) => {
-            write_register(vectors, d, turn(order, w, memory::sixteen(table, i)));
+            write_register(vectors, d, turn(board.order, w, memory::sixteen(table, i)));
             finished(c)
         }
         Spot::Work(i) => {
-            write_register(vectors, d, turn(order, w, memory::sixteen(work, i)));
+            write_register(vectors, d, turn(board.order, w, memory::sixteen(work, i)));
             finished(c)
         }
         Spot::Outside(x) => stopped(Stop::NoWindow(x), c),
@@ -93,12 +92,11 @@ fn store(
         (machine vectors.now g work.old c))
         result vectors.now g work.new }
 {
-    let order = board.order;
     match locate(board, table, work.len(), a) {
         Spot::Table(_) => stopped(Stop::ReadOnly(a), c),
         Spot::Work(i) => {
             let v = read_register(vectors, Vreg(dest_of(e)));
-            memory::put_sixteen(work, i, turn(order, width_of(e), v));
+            memory::put_sixteen(work, i, turn(board.order, width_of(e), v));
             finished(c)
         }
         Spot::Outside(x) => stopped(Stop::NoWindow(x), c),
@@ -129,17 +127,13 @@ fn branched(e: u64, is: bool, c: Control) -> Stepped
     ensures { (b : ℕ) (v g w : List ℕ) → StepIs (concluded b (unless (branch_early c.mark true)
         (plan.Branch (marked is ((c.pc + 4 + extended_of e) % 2 ^ 64)))) (machine v g w c)) result v g w }
 {
-    let mark = c.mark;
-    match mark {
-        Mark::Clear => {
-            let to = wrapping_add_u64(wrapping_add_u64(c.pc, 4), extended(e));
-            Stepped {
-                outcome: Ok(()),
-                control: forward(c, mark_of(is, to), c.csr),
-            }
-        }
-        Mark::NotTaken => stopped(Stop::BranchInSlot, c),
-        Mark::Taken(_) => stopped(Stop::BranchInSlot, c),
+    if let Err(s) = branch_early(c.mark, true) {
+        return stopped(s, c);
+    }
+    let to = c.pc.wrapping_add(4).wrapping_add(extended(e));
+    Stepped {
+        outcome: Ok(()),
+        control: forward(c, mark_of(is, to), c.csr),
     }
 }
 

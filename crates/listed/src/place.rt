@@ -2,11 +2,10 @@
 // have an index past all words: one test tells all three.
 ghost use Rattle.listed.specs.Turn.{Placed};
 
-use std::num::wrapping_sub_u64;
 
 pub fn place(base: u64, pc: u64) -> u64
     ensures { Placed base pc result }
 {
-    let d = wrapping_sub_u64(pc, base);
+    let d = pc.wrapping_sub(base);
     d / 4 + d % 4 * 0x4000_0000_0000_0000
 }

@@ -71,10 +71,9 @@ pub fn load(df: Width, wd: Vreg, a: u64, board: Board, table: &[u8], work: &[u8]
     ensures { result ≡ loaded (spot_of board (length table.now) (length work.now) a)
         board.order df wd table.now work.now }
 {
-    let order = board.order;
     match locate(board, table.len(), work.len(), a) {
-        Spot::Table(i) => Plan::Vector(wd, turn(order, df, memory::sixteen(table, i))),
-        Spot::Work(i) => Plan::Vector(wd, turn(order, df, memory::sixteen(work, i))),
+        Spot::Table(i) => Plan::Vector(wd, turn(board.order, df, memory::sixteen(table, i))),
+        Spot::Work(i) => Plan::Vector(wd, turn(board.order, df, memory::sixteen(work, i))),
         Spot::Outside(x) => Plan::Stop(Stop::NoWindow(x)),
     }
 }
@@ -91,10 +90,9 @@ pub fn store(
     ensures { result ≡ stored (spot_of board table work a) board.order df a
         (register_at vectors.now wd) }
 {
-    let order = board.order;
     match locate(board, table, work, a) {
         Spot::Table(_) => Plan::Stop(Stop::ReadOnly(a)),
-        Spot::Work(_) => Plan::Store(a, turn(order, df, read_register(vectors, wd))),
+        Spot::Work(_) => Plan::Store(a, turn(board.order, df, read_register(vectors, wd))),
         Spot::Outside(x) => Plan::Stop(Stop::NoWindow(x)),
     }
 }

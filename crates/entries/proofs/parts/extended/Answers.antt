@@ -9,4 +9,4 @@ overflow_add-x c = omega (arith, c.imm_of-x.ensures.1)
 pub returns : goal.returns
 returns c = rw (← c.imm_of-x.ensures.0)
     (carried c.imm_of-x.result _ c.imm_of-x.ensures.1 (search rules)
-    c.wrapping_sub_u64.ensures.value)
+    c.wrapping_sub.ensures)

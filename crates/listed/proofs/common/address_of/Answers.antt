@@ -6,4 +6,4 @@ returns c = rw (
   ← c.source_of.ensures.0,
   ← c.extended.ensures,
   ← c.general.ensures,
-) c.wrapping_add_u64.ensures.value
+) c.wrapping_add.ensures
