@@ -49,16 +49,6 @@ fn set_result(v: &mut [u8], g: &mut [u8], r: [u8; 100])
     }
 }
 
-fn finished(answer: Result<Result<(), Stop>, Refusal>) -> bool {
-    match answer {
-        Ok(outcome) => match outcome {
-            Ok(()) => true,
-            Err(_) => false,
-        },
-        Err(_) => false,
-    }
-}
-
 // A step of the word; whether it is finished. No case loads or stores.
 fn steps(word: &[u8], v: &mut [u8], g: &mut [u8]) -> bool {
     let board = Board {
@@ -74,9 +64,8 @@ fn steps(word: &[u8], v: &mut [u8], g: &mut [u8]) -> bool {
         on: true,
     };
     let mut work = [0u8; 1];
-    let answered = step(board, word, &[0u8; 0], v, g, &mut work, control);
-    let answer = answered.answer;
-    finished(answer)
+    let stepped = step(board, word, &[0u8; 0], v, g, &mut work, control);
+    matches!(stepped.answer, Ok(Ok(())))
 }
 
 fn agrees(r: [u8; 100]) -> bool {
