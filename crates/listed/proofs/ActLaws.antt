@@ -30,8 +30,6 @@ neither k h i j = go (ltb k 2) refl
     go true e = rw e
     go false e = let two = ltb-false k 2 e in switched k (omega arith)
 
--- with the unit on, a branch goes on where the mark is clear, and else stops
-
 -- VSHF stands at code 80
 pub shuffles : (n d s t : ℕ) → vector_of 80 n d s t ≡ whole n (chosen_by_control n d s t)
 unfolding vector_of three_at

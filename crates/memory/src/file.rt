@@ -7,6 +7,7 @@ use crate::Register;
 use isa::Vreg;
 
 // A number past 31 names no register: no byte stands there, and the value is 0.
+#[tactic(auto, unfolding(crate::specs::File::register_at))]
 pub fn read_register(file: &[u8; 512], r: Vreg) -> Register
     ensures { Holds result (register_at file.now r) }
 {
@@ -18,6 +19,7 @@ pub fn read_register(file: &[u8; 512], r: Vreg) -> Register
 }
 
 // Writes v as register r, and no other byte.
+#[tactic(auto, unfolding(crate::specs::File::with_register))]
 pub fn write_register(file: &mut [u8; 512], r: Vreg, v: Register)
     requires { r.0 < 32 }
     ensures { file.new ≡ with_register file.old r (value v) }

@@ -102,6 +102,7 @@ fn put_next(line: &mut [u8], at: usize, o: Operand) -> usize
     at
 }
 
+// Four by name, and not an array: the definition operands_text has the first apart and the others as these three.
 pub fn put_operands(
     line: &mut [u8],
     at: usize,

@@ -60,8 +60,8 @@ fn steps(word: &[u8], v: &mut [u8], g: &mut [u8]) -> bool {
         on: true,
     };
     let mut work = [0u8; 1];
-    let answered = step(board, word, &[0u8; 0], v, g, &mut work, control);
-    answered.answer == Ok(Ok(()))
+    let stepped = step(board, word, &[0u8; 0], v, g, &mut work, control);
+    matches!(stepped.answer, Ok(Ok(())))
 }
 
 fn agrees(r: [u8; 100]) -> bool {

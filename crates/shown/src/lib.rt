@@ -29,6 +29,7 @@ pub enum Form {
 }
 
 // One operand: $w1, $1, $1, -1, $w1[2], $w1[$2], -8($1).
+// Nothing is one of them, and not an Option around them: the definitions of specs/Shown name four operands by it.
 #[derive(Clone, Copy, Debug, PartialEq, Eq)]
 pub enum Operand {
     Nothing,

@@ -17,7 +17,8 @@ returns-then-letter-eq124 c =
 
 pub overflow_sub-letter : goal.overflow_sub-letter
 overflow_sub-letter c =
-    let e : c.in_ok-letter.field-0.now ≡ 97 + line_of c.args.m = letter c.args.m (search rules) (search rules) in omega (arith, e)
+    let e : c.in_ok-letter.field-0.now ≡ 97 + line_of c.args.m = letter c.args.m (search rules) (search rules) in
+    omega (arith, e)
 
 pub returns : goal.returns
 returns c =

@@ -37,9 +37,12 @@ pub put_part-requires : goal.put_part-requires
 unfolding row_at
 put_part-requires c =
     let l = c.in-Some.ensures.0 in
-    let h = c.in-Some.ensures.1 in
-    (inside c.args.k c.in-Some.row l h c.from-n.ensures, room_as (sym (named c.args.k c.in-Some.row l h c.from-n.ensures)) c.requires)
+    let h = c.in-Some.ensures.1 in (
+      inside c.args.k c.in-Some.row l h c.from-n.ensures,
+      room_as (sym (named c.args.k c.in-Some.row l h c.from-n.ensures)) c.requires,
+    )
 
 pub returns : goal.returns
 unfolding row_at
-returns c = puts-as (named c.args.k c.in-Some.row c.in-Some.ensures.0 c.in-Some.ensures.1 c.from-n.ensures) c.put_part.ensures
+returns c = puts-as (named c.args.k c.in-Some.row c.in-Some.ensures.0 c.in-Some.ensures.1 c.from-n.ensures)
+    c.put_part.ensures
