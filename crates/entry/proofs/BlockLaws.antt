@@ -19,10 +19,6 @@ use Rattle.memory.proofs.Numbers.{length-bytes_of, bytes_of-append}
 use Rattle.entry.specs.Block.{field, byte, broken, by_mark, decoded, encoded}
 use Rattle.entry.specs.Block.{mark_number, target_of, switch_number, order_number}
 
--- the two bytes from at, one by one
-pub part-two : (s : List ℕ) (at : ℕ) → at + 2 ≤ length s → part s at 2 ≡ get_or s at 0 ∷ get_or s (at + 1) 0 ∷ []
-part-two s at h = rw (drop-cons s at 0 (omega arith), drop-cons s (suc at) 0 (omega arith), add-one)
-
 -- the byte at, as the number of one byte
 pub one_byte : (b : List ℕ) (at : ℕ) → at < length b → byte b at ≡ number (part b at 1)
 unfolding number

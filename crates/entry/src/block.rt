@@ -8,7 +8,8 @@ ghost use Rattle.entry.specs.Block.{mark_number, target_of, switch_number, order
 use order::Order;
 use state::control::{Control, Mark};
 
-// A block that no set-up accepts: its counter is no multiple of four.
+// A block that no set-up accepts: its counter is no multiple of four. The definition `decoded` answers it, and no
+// Option, for bytes that are no block: so limit 5 refuses them.
 fn broken_block() -> Control
     ensures { result ≡ broken }
 {
@@ -18,22 +19,6 @@ fn broken_block() -> Control
         csr: 0,
         on: false,
     }
-}
-
-fn wide(b: u8) -> u32
-    ensures { (result ≡ b) × (result < 256) }
-{
-    b as u32
-}
-
-// The number of the two bytes from at.
-fn two(s: &[u8], at: usize) -> u32
-    requires { at + 2 ≤ length s.now }
-    ensures { result ≡ number (part s.now at 2) }
-{
-    let b0 = wide(s[at]);
-    let b1 = wide(s[at + 1]);
-    b0 + 256 * b1
 }
 
 // The control block that the bytes spell.
@@ -51,8 +36,7 @@ pub fn control_of(b: &[u8]) -> Control
         return broken_block();
     }
     let on = switch == 1;
-    let k = two(b, 20);
-    match k {
+    match memory::two(b, 20) {
         0 => Control {
             pc,
             mark: Mark::Clear,
@@ -103,9 +87,8 @@ fn target_of(k: Mark) -> u64
     ensures { result ≡ target_of k }
 {
     match k {
-        Mark::Clear => 0,
-        Mark::NotTaken => 0,
         Mark::Taken(t) => t,
+        Mark::Clear | Mark::NotTaken => 0,
     }
 }
 
@@ -129,8 +112,7 @@ fn last_eight(order: Order, c: Control) -> u64
     ensures { result ≡ c.csr
         + (mark_number c.mark + (switch_number c.on + order_number order * 2 ^ 8) * 2 ^ 16) * 2 ^ 32 }
 {
-    let mark = c.mark;
-    let k = mark_number(mark) as u64;
+    let k = mark_number(c.mark) as u64;
     let on = switch_number(c.on) as u64;
     let big = order_number(order) as u64;
     c.csr as u64 + (k + (on + big * 256) * 65536) * 4294967296
@@ -142,9 +124,8 @@ fn write_block(c: Control, b: &mut [u8])
     ensures { b.new ≡ encoded (ordered b.old) c }
 {
     let order = order_of(b);
-    let mark = c.mark;
     memory::put_eight(b, 0, c.pc);
-    memory::put_eight(b, 8, target_of(mark));
+    memory::put_eight(b, 8, target_of(c.mark));
     memory::put_eight(b, 16, last_eight(order, c));
 }
 
@@ -152,9 +133,7 @@ fn write_block(c: Control, b: &mut [u8])
 pub fn settle(finished: bool, c: Control, b: &mut [u8])
     ensures { b.new ≡ cond finished (written c b.old) b.old }
 {
-    if finished {
-        if b.len() == 24 {
-            write_block(c, b);
-        }
+    if finished && b.len() == 24 {
+        write_block(c, b);
     }
 }

@@ -16,7 +16,9 @@ pub returns-in-4 : goal.returns-in-4
 returns-in-4 c = rw (c.in-4.is, entry-given) (cc)
 
 pub returns-in-6 : goal.returns-in-6
-returns-in-6 c = rw (c.in-6.is, entry-given) (cc)
+returns-in-6 c =
+    let made = c.indexed.ensures _ c.bit_index.ensures in
+    rw (c.in-6.is, entry-given) (cc)
 
 pub returns-in-7 : goal.returns-in-7
 returns-in-7 c = rw c.in-7.is (cc)

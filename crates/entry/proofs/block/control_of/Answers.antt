@@ -23,27 +23,27 @@ pub returns-in-0 : goal.returns-in-0
 returns-in-0 c =
     let b = c.args.b.now in
     let read = known b c.if-b-ne24.false (omega arith) (omega arith) in
-    let mark : c.two-k.result ≡ 0 = c.in-0.is in
-    rw (read, ← c.two-k.ensures, mark, c.eight-pc.ensures, c.four-csr.ensures)
+    let mark : c.two.result ≡ 0 = c.in-0.is in
+    rw (read, ← c.two.ensures, mark, c.eight-pc.ensures, c.four-csr.ensures)
 
 pub returns-in-1 : goal.returns-in-1
 returns-in-1 c =
     let b = c.args.b.now in
     let read = known b c.if-b-ne24.false (omega arith) (omega arith) in
-    let mark : c.two-k.result ≡ 1 = c.in-1.is in
-    rw (read, ← c.two-k.ensures, mark, c.eight-pc.ensures, c.four-csr.ensures)
+    let mark : c.two.result ≡ 1 = c.in-1.is in
+    rw (read, ← c.two.ensures, mark, c.eight-pc.ensures, c.four-csr.ensures)
 
 pub returns-in-2 : goal.returns-in-2
 returns-in-2 c =
     let b = c.args.b.now in
     let read = known b c.if-b-ne24.false (omega arith) (omega arith) in
-    let mark : c.two-k.result ≡ 2 = c.in-2.is in
-    rw (read, ← c.two-k.ensures, mark, c.eight-pc.ensures, c.four-csr.ensures, c.eight.ensures)
+    let mark : c.two.result ≡ 2 = c.in-2.is in
+    rw (read, ← c.two.ensures, mark, c.eight-pc.ensures, c.four-csr.ensures, c.eight.ensures)
 
 pub returns-in_default : goal.returns-in_default
 returns-in_default c =
     let b = c.args.b.now in
     let read = known b c.if-b-ne24.false (omega arith) (omega arith) in
-    let k = c.two-k.result in
-    rw (read, ← c.two-k.ensures, ne_eqb k 0 (omega arith), ne_eqb k 1 (omega arith), ne_eqb k 2 (omega arith))
+    let k = c.two.result in
+    rw (read, ← c.two.ensures, ne_eqb k 0 (omega arith), ne_eqb k 1 (omega arith), ne_eqb k 2 (omega arith))
     c.broken_block-in_default.ensures
