@@ -8,9 +8,6 @@ use Rattle.parallel.proofs.Words.{own, shr_lanes}
 use Prim.Native.Nat.{◌-◌}
 use Rattle.parallel_bits.proofs.shr.Goals as goal
 
-pub overflow_shr-result : goal.overflow_shr-result
-overflow_shr-result c = omega (arith, c.requires, size c.args.w)
-
 pub returns : goal.returns
 returns c =
     let a = c.args in

@@ -12,9 +12,6 @@ use Rattle.vectors.specs.Register.{element}
 use Rattle.parallel_bits.proofs.Amounts.{moved-below, sll-lane}
 use Rattle.parallel_bits.proofs.sll.Goals as goal
 
-pub overflow_shl-result : goal.overflow_shl-result
-overflow_shl-result c = omega (arith, c.requires, size c.args.w)
-
 pub returns : goal.returns
 returns c =
     let a = c.args in

@@ -13,6 +13,3 @@ pub returns : goal.returns
 returns c =
     let a = c.args in
     pair-lanes a.n c.requires.0 a.x a.m (search rules) c.requires.1
-
-pub overflow_shr-result : goal.overflow_shr-result
-overflow_shr-result c = half-below c.args.n c.requires.0

@@ -10,10 +10,6 @@ returns c =
     let top = c in
     wider 8 refl top.args.s top.ranges.s.fits c.pcnt_b.ensures c.paired.ensures
 
-pub pcnt_b-requires : goal.pcnt_b-requires
-unfolding build
-pcnt_b-requires c = search rules
-
 pub paired-requires : goal.paired-requires
 unfolding build
 paired-requires c = (refl, low_halves 8 refl refl)

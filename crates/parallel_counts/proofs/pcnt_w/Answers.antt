@@ -10,10 +10,6 @@ returns c =
     let top = c in
     wider 16 refl top.args.s top.ranges.s.fits c.pcnt_h.ensures c.paired.ensures
 
-pub pcnt_h-requires : goal.pcnt_h-requires
-unfolding build
-pcnt_h-requires c = search rules
-
 pub paired-requires : goal.paired-requires
 unfolding build
 paired-requires c = (refl, low_halves 16 refl refl)

@@ -12,11 +12,6 @@ overflow_add-result c =
 pub turned-requires : goal.turned-requires
 turned-requires c = let a = c.args in high_small a.w a.s c.high_half-in-Signed.ensures
 
-pub turned-requires-in-Signed : goal.turned-requires-in-Signed
-turned-requires-in-Signed c =
-    let a = c.args in
-    low_small a.w a.t c.low_half-in-Signed.ensures
-
 pub overflow_add-turned : goal.overflow_add-turned
 overflow_add-turned c =
     let low = c in

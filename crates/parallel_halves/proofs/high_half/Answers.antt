@@ -9,9 +9,6 @@ use Rattle.element.proofs.Widths.{size, half-size}
 use Rattle.parallel_halves.proofs.Parts.{halved}
 use Rattle.parallel_halves.proofs.high_half.Goals as goal
 
-pub overflow_shr-result : goal.overflow_shr-result
-overflow_shr-result c = let a = c.args in omega (arith, c.part.ensures, (half-size a.w).part, size a.w)
-
 pub returns : goal.returns
 returns c =
     let a = c.args in

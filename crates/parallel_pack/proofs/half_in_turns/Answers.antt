@@ -11,12 +11,6 @@ use Rattle.parallel.proofs.Words.{same-lanes}
 use Rattle.parallel_pack.proofs.Places.{doubles, half_at}
 use Rattle.parallel_pack.proofs.half_in_turns.Goals as goal
 
-pub scattered-requires : goal.scattered-requires
-scattered-requires c = (c.requires.0, omega arith)
-
-pub scattered-requires-2 : goal.scattered-requires-2
-scattered-requires-2 c = (c.requires.0, omega arith)
-
 pub interleaved-requires : goal.interleaved-requires
 interleaved-requires c =
     let top = c in

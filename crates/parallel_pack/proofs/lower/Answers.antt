@@ -20,6 +20,3 @@ returns-in-H c = rw c.in-H.is (made (shares W) _ refl (λ i l. lit< tt))
 pub returns-in-W : goal.returns-in-W
 unfolding build
 returns-in-W c = rw c.in-W.is (made (shares D) _ refl (λ i l. lit< tt))
-
-pub returns-in-D : goal.returns-in-D
-returns-in-D c = absurd (let h = rw c.in-D.is at c.requires in omega (arith, h))

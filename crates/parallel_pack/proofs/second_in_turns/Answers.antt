@@ -11,15 +11,6 @@ use Rattle.parallel.proofs.Words.{same-lanes}
 use Rattle.parallel_pack.proofs.Places.{doubles, one_on, element-shift}
 use Rattle.parallel_pack.proofs.second_in_turns.Goals as goal
 
-pub overflow_mul-k : goal.overflow_mul-k
-overflow_mul-k c = omega (arith, one_on c.count.ensures c.requires.0 c.requires.1)
-
-pub overflow_shr-t : goal.overflow_shr-t
-overflow_shr-t c = one_on c.count.ensures c.requires.0 c.requires.1
-
-pub overflow_shr-s : goal.overflow_shr-s
-overflow_shr-s c = let a = c in one_on c.count.ensures a.requires.0 a.requires.1
-
 pub interleaved-requires : goal.interleaved-requires
 interleaved-requires c =
     let top = c in

@@ -9,12 +9,6 @@ use Rattle.vectors.proofs.Sizes.{shares, inside}
 use Rattle.vectors.specs.Register.{element}
 use Rattle.vectors.proofs.in_word.Goals as goal
 
-pub overflow_mul-count : goal.overflow_mul-count
-overflow_mul-count c = let start = c in rw c.count.ensures (omega (arith, inside (shares start.args.w) start.args.i start.requires))
-
-pub overflow_shr-x : goal.overflow_shr-x
-overflow_shr-x c = let start = c in rw c.count.ensures (omega (arith, inside (shares start.args.w) start.args.i start.requires, size start.args.w))
-
 pub returns : goal.returns
 unfolding element
 returns c = let a = c.args in let e : c.low.result ≡ element (bits a.w) a.x a.i = rw (c.low.ensures, c.count.ensures) refl in

@@ -8,9 +8,6 @@ use Rattle.vectors.proofs.Sizes.{shares}
 use Rattle.vectors.proofs.Wholes.{whole_words}
 use Rattle.vectors.proofs.spread.Goals as goal
 
-pub spread_word-word-requires : goal.spread_word-word-requires
-spread_word-word-requires c = rw c.low.ensures (mod-lt _ (pow_pos _))
-
 pub returns : goal.returns
 unfolding filled
 returns c =

@@ -19,9 +19,3 @@ returns c =
     let share = shares a.w in
     same-lanes share (field-lanes share twice.sll.ensures 1 a.k (omega arith) c.units.ensures)
     (λ i l. last-lane n (element n a.s i) a.k (omega (arith, wide a.w)) small)
-
-pub sll-requires : goal.sll-requires
-sll-requires c = omega (arith, wide c.args.w)
-
-pub overflow_shr-result : goal.overflow_shr-result
-overflow_shr-result c = omega (arith, (size c.args.w).few)

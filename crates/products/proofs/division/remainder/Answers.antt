@@ -12,9 +12,6 @@ pub nonzero_rem-amount : goal.nonzero_rem-amount
 nonzero_rem-amount c = let start = c in let w = start.args.w in
     omega (arith, amount-some (bits w) (size w) start.args.g start.requires.second c.if-t-eq0.false)
 
-pub by_sign-requires : goal.by_sign-requires
-by_sign-requires c = lt_of_le_of_lt (mod-le _ _) c.amount.ensures.below
-
 pub returns : goal.returns
 returns c =
     let start = c in
