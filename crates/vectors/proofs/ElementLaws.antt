@@ -2,7 +2,7 @@
 use mathlib.Core.Path.{◌≡◌, refl, sym, ap, ap₂, ◌∙◌}
 use Prim.Native.Nat.{ℕ, zero, suc, ◌+◌, ◌-◌, ◌*◌, ◌/◌, ◌%◌, ◌^◌, ◌≤◌, ◌<◌}
 use native.Mathlib.Omega.{arith}
-use native.Mathlib.Nat.{mod-lt, mod-one, mul-zero, zero-mod, div-eq_of_lt, div-one, mul-le-mul_left, mul-le-mul_right, add-mul-div_right, add-mul-mod_self_right, mod-eq_of_lt}
+use native.Mathlib.Nat.{mod-lt, mod-one, mul-zero, zero-mod, div-eq_of_lt, div-one, mul-le-mul_right, add-mul-div_right, add-mul-mod_self_right, mod-eq_of_lt}
 use lib.Arith.{digits_div}
 use lib.Pow.{pow_pos, pow-add, shr-shr, mod-pow-add}
 use Rattle.vectors.specs.Register.{element, build}

@@ -1,12 +1,8 @@
 -- `parallel_bits::kept` meets its contract. The largest element, shifted.
-use borrow.Author.Rules.{rules}
 use native.Mathlib.Omega.{arith}
-use Rattle.element.proofs.Widths.{size}
 use Rattle.isa.specs.Widths.{bits}
 use Rattle.vectors.proofs.Sizes.{shares}
 use Rattle.parallel.proofs.Words.{same-lanes}
-use Prim.Native.Nat.{◌-◌, ◌^◌}
-use lib.Pow.{shr_le}
 use Rattle.parallel_bits.proofs.Amounts.{ones_shr}
 use Rattle.parallel_bits.proofs.kept.Goals as goal
 

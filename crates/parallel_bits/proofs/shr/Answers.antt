@@ -1,7 +1,6 @@
 -- `parallel_bits::shr` meets its contract. What came from the next element is taken off.
 use borrow.Author.Rules.{rules}
 use native.Mathlib.Omega.{arith}
-use Rattle.element.proofs.Widths.{size}
 use Rattle.isa.specs.Widths.{bits}
 use Rattle.vectors.proofs.Sizes.{shares}
 use Rattle.parallel.proofs.Words.{own, shr_lanes}

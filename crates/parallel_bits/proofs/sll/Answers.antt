@@ -1,7 +1,5 @@
 -- `parallel_bits::sll` meets its contract. What would leave the element is taken off first.
 use borrow.Author.Rules.{rules}
-use native.Mathlib.Omega.{arith}
-use Rattle.element.proofs.Widths.{size}
 use Rattle.isa.specs.Widths.{bits}
 use Rattle.vectors.proofs.Sizes.{shares}
 use Rattle.parallel.proofs.Words.{own, same-lanes, and-lanes, times-lanes}

@@ -1,5 +1,4 @@
 -- `parallel_counts::count_word` meets its contract. Each arm hands on what its function ensures.
-use borrow.Author.Rules.{rules}
 use mathlib.Core.Path.{ap}
 use lib.Count.{count_leading_zeros}
 use Rattle.isa.specs.Widths.{bits}

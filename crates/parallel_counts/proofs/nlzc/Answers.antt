@@ -1,7 +1,6 @@
 -- `parallel_counts::nlzc` meets its contract. The ones of what a full run leaves, or each element by itself.
 use borrow.Author.Rules.{rules}
 use lib.Count.{count_leading_zeros}
-use lib.Dec.{lit<}
 use Rattle.isa.specs.declared.Width.TheVariants.{B, H}
 use Rattle.parallel_counts.proofs.Apart.{one_lane}
 use Rattle.parallel_counts.proofs.Runs.{runs-more, left_over}

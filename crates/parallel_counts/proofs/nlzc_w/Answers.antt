@@ -1,5 +1,4 @@
 -- `parallel_counts::nlzc_w` meets its contract. Two elements, each counted by itself.
-use borrow.Author.Rules.{rules}
 use Prim.Native.Nat.{ℕ, ◌^◌, ◌<◌}
 use native.Mathlib.Omega.{arith}
 use lib.Count.{count_leading_zeros, leading_le}

@@ -1,7 +1,7 @@
 -- `parallel_counts::paired` meets its contract. The sum of two halves has room in the whole.
 use borrow.Author.Rules.{rules}
 use native.Mathlib.Omega.{arith}
-use Rattle.parallel_counts.proofs.Pairs.{half-below, pair-lanes}
+use Rattle.parallel_counts.proofs.Pairs.{pair-lanes}
 use Rattle.parallel_counts.proofs.paired.Goals as goal
 
 pub overflow_add-result : goal.overflow_add-result

@@ -1,5 +1,4 @@
 -- `parallel_counts::pcnt_h` meets its contract. Once more to counts of twice the width.
-use borrow.Author.Rules.{rules}
 use mathlib.Core.Path.{refl}
 use Rattle.vectors.specs.Register.{build}
 use Rattle.parallel_counts.proofs.Pairs.{low_halves, wider}

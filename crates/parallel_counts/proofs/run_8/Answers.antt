@@ -1,7 +1,6 @@
 -- `parallel_counts::run_8` meets its contract. Runs of 1, 2 and 4 become runs of twice as many.
-use native.Mathlib.Omega.{arith}
 use Rattle.isa.specs.Widths.{bits}
-use Rattle.parallel_counts.proofs.Runs.{runs-first, runs-more, at-least-8}
+use Rattle.parallel_counts.proofs.Runs.{runs-first, runs-more}
 use Rattle.parallel_counts.proofs.run_8.Goals as goal
 
 pub returns : goal.returns

@@ -1,6 +1,6 @@
 -- `parallel_halves::hadd` meets its contract. The sums of the halves, or of their views, have room (Sides).
 use native.Mathlib.Omega.{arith}
-use Rattle.parallel_halves.proofs.Sides.{high_small, low_small, sum-unsigned, sum-turned, sum-full, sum-signed}
+use Rattle.parallel_halves.proofs.Sides.{high_small, sum-unsigned, sum-turned, sum-full, sum-signed}
 use Rattle.parallel_halves.proofs.hadd.Goals as goal
 
 pub overflow_add-result : goal.overflow_add-result

@@ -11,7 +11,7 @@ use Rattle.vectors.specs.Register.{element}
 use Rattle.vectors.proofs.ElementLaws.{element-below, build-same}
 use Rattle.vectors.proofs.Wholes.{value_low, value-high}
 use Rattle.parallel.proofs.Words.{made}
-use Rattle.parallel_pack.proofs.Places.{doubles, one_on, half-below, halves-built, element-shift}
+use Rattle.parallel_pack.proofs.Places.{doubles, half-below, halves-built, element-shift}
 use Rattle.parallel_pack.proofs.every_second.Goals as goal
 
 pub overflow_add-result : goal.overflow_add-result

@@ -1,9 +1,7 @@
 -- `parallel_pack::gathered` meets its contract. Runs of one element become runs of two and of four.
-use borrow.Author.Rules.{rules}
 use mathlib.Core.Path.{sym}
 use Prim.Native.Nat.{ℕ, ◌*◌, ◌^◌, ◌<◌}
-use native.Mathlib.Omega.{arith}
-use lib.Dec.{lit<, lit≤}
+use lib.Dec.{lit<}
 use Rattle.isa.specs.declared.Width.TheVariants.{H, W, D}
 use Rattle.vectors.specs.Register.{element}
 use Rattle.vectors.proofs.ElementLaws.{element-below}

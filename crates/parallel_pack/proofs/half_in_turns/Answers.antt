@@ -1,5 +1,4 @@
 -- `parallel_pack::half_in_turns` meets its contract. The elements of half a word of both, in turns.
-use borrow.Author.Rules.{rules}
 use mathlib.Core.Path.{◌∙◌, ap₂}
 use mathlib.Core.Bool.{cond}
 use Prim.Native.Nat.{◌*◌, ◌/◌, ◌%◌, ◌^◌}

@@ -1,6 +1,4 @@
 -- `parallel_pack::lower` meets its contract. At each width the literal is the number built of the elements.
-use borrow.Author.Rules.{rules}
-use native.Mathlib.Omega.{arith}
 use mathlib.Core.Path.{refl}
 use lib.Dec.{lit<}
 use Rattle.vectors.proofs.Sizes.{shares}

@@ -2,8 +2,7 @@
 use borrow.Author.Rules.{rules}
 use native.Mathlib.Omega.{arith}
 use native.Mathlib.Nat.{mod-eq_of_lt}
-use Rattle.element.proofs.Widths.{size}
-use Rattle.parallel_pack.proofs.Places.{quarter-fits, up-lanes, moved-lanes}
+use Rattle.parallel_pack.proofs.Places.{up-lanes, moved-lanes}
 use Rattle.parallel_pack.proofs.moved.Goals as goal
 
 pub overflow_add-result : goal.overflow_add-result

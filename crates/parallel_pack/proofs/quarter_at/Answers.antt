@@ -1,10 +1,7 @@
 -- `parallel_pack::quarter_at` meets its contract. A field of every element, at its place.
 use borrow.Author.Rules.{rules}
-use native.Mathlib.Omega.{arith}
 use native.Mathlib.Nat.{mod-eq_of_lt}
-use Rattle.element.proofs.Widths.{size}
-use Rattle.parallel_pack.proofs.Places.{quarter-fits}
-use Rattle.parallel_pack.proofs.Quarters.{place-fits, quarter-lanes}
+use Rattle.parallel_pack.proofs.Quarters.{quarter-lanes}
 use Rattle.parallel_pack.proofs.quarter_at.Goals as goal
 
 pub returns : goal.returns

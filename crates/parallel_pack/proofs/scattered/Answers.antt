@@ -1,8 +1,5 @@
 -- `parallel_pack::scattered` meets its contract. One run becomes runs of two and of one element.
-use borrow.Author.Rules.{rules}
-use Prim.Native.Nat.{◌<◌}
-use native.Mathlib.Omega.{arith}
-use lib.Dec.{lit<, lit≤}
+use lib.Dec.{lit<}
 use Rattle.isa.specs.declared.Width.TheVariants.{B, H, W, D}
 use Rattle.vectors.specs.Register.{element}
 use Rattle.vectors.proofs.ElementLaws.{element-below}

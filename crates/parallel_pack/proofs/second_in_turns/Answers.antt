@@ -1,5 +1,4 @@
 -- `parallel_pack::second_in_turns` meets its contract. The even elements of both, in turns.
-use borrow.Author.Rules.{rules}
 use mathlib.Core.Path.{◌∙◌, ap₂}
 use mathlib.Core.Bool.{cond}
 use Prim.Native.Nat.{◌*◌, ◌/◌, ◌%◌, ◌^◌}
@@ -8,7 +7,7 @@ use lib.Dec.{eqb}
 use Rattle.isa.specs.Widths.{bits}
 use Rattle.vectors.proofs.ElementLaws.{element-below}
 use Rattle.parallel.proofs.Words.{same-lanes}
-use Rattle.parallel_pack.proofs.Places.{doubles, one_on, element-shift}
+use Rattle.parallel_pack.proofs.Places.{doubles, element-shift}
 use Rattle.parallel_pack.proofs.second_in_turns.Goals as goal
 
 pub interleaved-requires : goal.interleaved-requires

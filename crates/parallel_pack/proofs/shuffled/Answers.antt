@@ -1,6 +1,5 @@
 -- `parallel_pack::shuffled` meets its contract. The sum of four quarters of every element.
 use native.Mathlib.Omega.{arith}
-use lib.Dec.{lit<}
 use Rattle.parallel_pack.proofs.Quarters.{two_lanes, three-lanes, shuffled-lanes}
 use Rattle.parallel_pack.proofs.shuffled.Goals as goal
 

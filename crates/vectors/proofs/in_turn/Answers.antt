@@ -1,5 +1,5 @@
 -- `vectors::in_turn` meets its contract. Each turn puts one more element below those that are made.
-use Rattle.std.proofs.Common.{◌≡◌, ◌+◌, ◌-◌, ◌*◌, ◌/◌, ◌^◌, ◌≤◌, ◌<◌, arith}
+use Rattle.std.proofs.Common.{◌-◌, ◌*◌, ◌/◌, ◌≤◌, arith}
 use native.Mathlib.Nat.{mul-le-mul_left}
 use lib.Pow.{pow_mono}
 use Rattle.isa.specs.Widths.{bits}

@@ -1,11 +1,8 @@
 -- `vectors::in_word` meets its contract. A shift and a remainder.
-use borrow.Author.Rules.{rules}
 use mathlib.Core.Path.{◌≡◌, refl}
 use native.Mathlib.Omega.{arith}
-use Rattle.element.proofs.Widths.{size}
 use Rattle.isa.specs.Widths.{bits}
 use Rattle.vectors.proofs.ElementLaws.{element-below}
-use Rattle.vectors.proofs.Sizes.{shares, inside}
 use Rattle.vectors.specs.Register.{element}
 use Rattle.vectors.proofs.in_word.Goals as goal
 

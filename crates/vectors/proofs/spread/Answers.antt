@@ -1,7 +1,5 @@
 -- `vectors::spread` meets its contract. Both words are the same.
 use borrow.Author.Rules.{rules}
-use native.Mathlib.Nat.{mod-lt}
-use lib.Pow.{pow_pos}
 use Rattle.memory.proofs.Values.{is-register}
 use Rattle.vectors.specs.Register.{filled}
 use Rattle.vectors.proofs.Sizes.{shares}

@@ -1,5 +1,4 @@
 -- `vectors::spread_word` meets its contract. At each width the product with ones at the elements' places is the sum of the elements.
-use borrow.Author.Rules.{rules}
 use native.Mathlib.Omega.{arith}
 use Rattle.vectors.specs.Register.{build}
 use Rattle.vectors.proofs.spread_word.Goals as goal

@@ -2,7 +2,6 @@
 use Rattle.bits.proofs.Fields.{leading_narrow}
 use Rattle.element.proofs.Widths.{size}
 use Rattle.isa.specs.Widths.{bits}
-use borrow.Author.Rules.{rules}
 use lib.Count.{leading_le}
 use native.Mathlib.Omega.{arith}
 use Rattle.bits.proofs.counts.nlzc.Goals as goal

@@ -1,5 +1,4 @@
 -- `parallel::clipped::max_a` meets its contract. The test of the absolute values picks.
-use borrow.Author.Rules.{rules}
 use Rattle.linear.specs.Order.{larger}
 use Rattle.parallel.proofs.Tested.{order-of, picked-by}
 use Rattle.parallel.proofs.clipped.max_a.Goals as goal

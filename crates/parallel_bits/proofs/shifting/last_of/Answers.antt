@@ -1,8 +1,6 @@
 -- `parallel_bits::shifting::last_of` meets its contract. Bit k of twice the element.
-use borrow.Author.Rules.{rules}
 use native.Mathlib.Omega.{arith}
 use Rattle.isa.specs.Widths.{bits}
-use Rattle.element.proofs.Widths.{size}
 use Rattle.vectors.specs.Register.{element}
 use Rattle.vectors.proofs.Sizes.{shares}
 use Rattle.parallel.proofs.Words.{same-lanes, field-lanes}

@@ -1,5 +1,4 @@
 -- `parallel_bits::shifting::last_out` meets its contract. Bit k of twice the element.
-use borrow.Author.Rules.{rules}
 use native.Mathlib.Omega.{arith}
 use mathlib.Core.Path.{ap, ◌∙◌}
 use Prim.Native.Nat.{◌/◌, ◌%◌, ◌^◌}

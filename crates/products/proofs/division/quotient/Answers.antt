@@ -1,5 +1,5 @@
 -- `products::division::quotient` meets its contract. By sign and absolute value.
-use Rattle.std.proofs.Common.{◌≡◌, not, ap, ◌∙◌, lt_of_le_of_lt, div-le_self, arith}
+use Rattle.std.proofs.Common.{◌≡◌, not, ap, ◌∙◌, arith}
 use lib.Signed.{non_neg}
 use Rattle.element.specs.Value.{value}
 use Rattle.element.proofs.Widths.{size}

@@ -1,11 +1,10 @@
 -- `products::division::remainder` meets its contract. By sign and absolute value.
-use Rattle.std.proofs.Common.{◌≡◌, not, sym, lt_of_le_of_lt, arith}
+use Rattle.std.proofs.Common.{◌≡◌, not, sym, arith}
 use lib.Signed.{non_neg}
 use Rattle.element.specs.Value.{value}
 use Rattle.element.proofs.Widths.{size}
 use Rattle.isa.specs.Widths.{bits}
 use Rattle.products.proofs.Quotient.{amount-some, remainder-form, remainder-zero}
-use native.Mathlib.Nat.{mod-le}
 use Rattle.products.proofs.division.remainder.Goals as goal
 
 pub nonzero_rem-amount : goal.nonzero_rem-amount
