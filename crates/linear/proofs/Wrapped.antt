@@ -1,5 +1,5 @@
--- Sums and differences that wrap: what the wrapping operations of std give is ADDV and SUBV. One fact over the width, cited at each of
--- the four.
+-- Sums and differences that wrap: what the wrapping operations of std give is ADDV and SUBV. One fact over the width,
+-- cited at each of the four.
 use Rattle.std.proofs.Common.{◌≡◌, ℕ, ◌+◌, ◌-◌, ◌/◌, ◌%◌, ◌^◌, sym, mod-lt, pow_pos, div-add-mod', arith}
 use native.Mathlib.Nat.{add-mod}
 use Rattle.element.proofs.Diff.{diff-pos, diff-minus}

@@ -79,7 +79,8 @@ module _ (n out : ℕ) {e : ℕ} (fits : e < 2 ^ n) where
     pub room-more : out < 2 ^ (n * (m - i)) → out * 2 ^ n + e < 2 ^ (n * (m - (i - 1)))
     room-more room =
         let more : m - (i - 1) ≡ suc (m - i) = omega arith in
-        rw (more, next n (m - i)) (omega (arith, mul-le-mul_right {m = suc out} {n = 2 ^ (n * (m - i))} (2 ^ n) (omega arith)))
+        rw (more, next n (m - i))
+        (omega (arith, mul-le-mul_right {m = suc out} {n = 2 ^ (n * (m - i))} (2 ^ n) (omega arith)))
 
     pub elements-more : (P : ℕ → ℕ → Type 0) → P (i - 1) e → ((j : ℕ) → j < m - i → P (i + j) (element n out j))
         → (j : ℕ) → j < m - (i - 1) → P (i - 1 + j) (element n (out * 2 ^ n + e) j)
