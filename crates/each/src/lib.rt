@@ -16,16 +16,14 @@ use memory::Register;
 use parallel::dispatch::{absolute, addition, basic, compare, subtraction};
 use parallel_halves::across;
 use parallel_products::dispatch::{dot, product};
+use vectors::words::{by_three_words, by_words};
 
 // d is the old destination; an immediate form has the immediate in every element of t.
 pub fn each(op: Lane, w: Width, d: Register, s: Register, t: Register) -> Register
     requires { Fits op (bits w) }
     ensures { result ≡ register (each_lane op (bits w) (value d) (value s) (value t)) }
 {
-    Register {
-        low: lane(op, w, d.low, s.low, t.low),
-        high: lane(op, w, d.high, s.high, t.high),
-    }
+    by_three_words(d, s, t, |d, s, t| lane(op, w, d, s, t))
 }
 
 // The operations of 3R by Table 4.1 and 4.8, which kernels use most: the row of the operation is found once for both
@@ -34,37 +32,13 @@ pub fn each_arith(op: Arith, w: Width, d: Register, s: Register, t: Register) ->
     ensures { result ≡ register (each_lane (lane.Arith op) (bits w) (value d) (value s) (value t)) }
 {
     match op {
-        Arith::Basic(o) => Register {
-            low: basic(o, w, s.low, t.low),
-            high: basic(o, w, s.high, t.high),
-        },
-        Arith::Absolute(o) => Register {
-            low: absolute(o, w, s.low, t.low),
-            high: absolute(o, w, s.high, t.high),
-        },
-        Arith::Compare(o) => Register {
-            low: compare(o, w, s.low, t.low),
-            high: compare(o, w, s.high, t.high),
-        },
-        Arith::Addition(o) => Register {
-            low: addition(o, w, s.low, t.low),
-            high: addition(o, w, s.high, t.high),
-        },
-        Arith::Subtraction(o) => Register {
-            low: subtraction(o, w, s.low, t.low),
-            high: subtraction(o, w, s.high, t.high),
-        },
-        Arith::Product(o) => Register {
-            low: product(o, w, d.low, s.low, t.low),
-            high: product(o, w, d.high, s.high, t.high),
-        },
-        Arith::Dot(o) => Register {
-            low: dot(o, w, d.low, s.low, t.low),
-            high: dot(o, w, d.high, s.high, t.high),
-        },
-        Arith::Across(o) => Register {
-            low: across(o, w, s.low, t.low),
-            high: across(o, w, s.high, t.high),
-        },
+        Arith::Basic(o) => by_words(s, t, |s, t| basic(o, w, s, t)),
+        Arith::Absolute(o) => by_words(s, t, |s, t| absolute(o, w, s, t)),
+        Arith::Compare(o) => by_words(s, t, |s, t| compare(o, w, s, t)),
+        Arith::Addition(o) => by_words(s, t, |s, t| addition(o, w, s, t)),
+        Arith::Subtraction(o) => by_words(s, t, |s, t| subtraction(o, w, s, t)),
+        Arith::Product(o) => by_three_words(d, s, t, |d, s, t| product(o, w, d, s, t)),
+        Arith::Dot(o) => by_three_words(d, s, t, |d, s, t| dot(o, w, d, s, t)),
+        Arith::Across(o) => by_words(s, t, |s, t| across(o, w, s, t)),
     }
 }

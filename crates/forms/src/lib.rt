@@ -17,6 +17,7 @@ use parallel_products::fixed_point::fixed as multiplied;
 use permute::moves::{extend, splat};
 use permute::{pack, slide, vshf};
 use vectors::spread;
+use vectors::words::by_three_words;
 
 // 3R with three vector registers.
 pub fn three(op: Three, w: Width, d: Register, s: Register, t: Register) -> Register
@@ -37,10 +38,7 @@ pub fn fixed(op: Fixed, w: Width, d: Register, s: Register, t: Register) -> Regi
     requires { bits w ≤ 32 }
     ensures { result ≡ register (fixed_of op (bits w) (value d) (value s) (value t)) }
 {
-    Register {
-        low: multiplied(op, w, d.low, s.low, t.low),
-        high: multiplied(op, w, d.high, s.high, t.high),
-    }
+    by_three_words(d, s, t, |d, s, t| multiplied(op, w, d, s, t))
 }
 
 // `indexed` by the words of d and s. Two classes of instructions share it, so it is a function of its own in the end:

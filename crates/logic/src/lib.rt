@@ -8,6 +8,7 @@ ghost use Rattle.logic.specs.Logic.{logic_bit};
 
 use isa::Logic;
 use memory::Register;
+use vectors::words::by_three_words;
 
 const ONES: u64 = 0xFFFF_FFFF_FFFF_FFFF;
 
@@ -29,8 +30,5 @@ pub fn logic_word(op: Logic, d: u64, s: u64, t: u64) -> u64
 pub fn logic(op: Logic, d: Register, s: Register, t: Register) -> Register
     ensures { result ≡ register (together 1 (logic_bit op) (value d) (value s) (value t)) }
 {
-    Register {
-        low: logic_word(op, d.low, s.low, t.low),
-        high: logic_word(op, d.high, s.high, t.high),
-    }
+    by_three_words(d, s, t, |d, s, t| logic_word(op, d, s, t))
 }

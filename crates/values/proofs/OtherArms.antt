@@ -8,8 +8,6 @@ use Prim.Native.Nat.{ℕ}
 use native.Mathlib.Omega.{arith}
 use lib.Dec.{eqb}
 use Rattle.isa.specs.declared.BitOp.TheVariants as bit
-use Rattle.isa.specs.declared.Count.{Count}
-use Rattle.isa.specs.declared.Fixed.{Fixed}
 use Rattle.isa.specs.declared.Fixed.TheVariants.{MsubrQ}
 use Rattle.isa.specs.declared.Saturate.{Saturate}
 use Rattle.isa.specs.declared.Width.{Width}
@@ -18,7 +16,7 @@ use Rattle.lanes.specs.declared.Lane.TheVariants as lane
 use Rattle.lanes.specs.Lane.{lane_of}
 use Rattle.each.proofs.Words.{both_words}
 use Rattle.entries.specs.Cut.{code_of, width_of, imm_of}
-use Rattle.forms.specs.Forms.{bit_of, count_of, fixed_of}
+use Rattle.forms.specs.Forms.{bit_of, fixed_of}
 use Rattle.memory.specs.declared.Register.{Register}
 use Rattle.memory.specs.Value.{value, register, Holds}
 use Rattle.ops.proofs.Find.{Others, among, none}
@@ -27,7 +25,7 @@ use Rattle.state.specs.Machine.{Machine}
 use Rattle.vectors.specs.Register.{filled}
 use Rattle.vectors.proofs.Sizes.{shares}
 use Rattle.vectors.proofs.Wholes.{value-filled}
-use Rattle.acts.specs.Act.{At, said, dest_in, source_in, last_in, narrow_of, count_in, fixed_in, values, value_of}
+use Rattle.acts.specs.Act.{At, said, source_in, fixed_in, values, value_of}
 use Rattle.values.proofs.Arms.{words_of}
 
 -- ---- where the code is none of these, what is said first
@@ -59,35 +57,17 @@ module _ (m : Machine) (x : ℕ) {k c : ℕ} {r : Register} (key : c ≡ k) (cod
   pub of-value : r ≡ register (value_at m x k) → r ≡ register (value_of m x)
   of-value h = rw (← code, key) h
 
-  module _ {w : Width} {s : Register} (width : w ≡ width_of x) (held : Holds s (source_in m x)) where
-    pub counted : (o : Count) → count_in m x (count_of o) ≡ value_at m x k
-        → Each3 (bits w) r.low (lane_of (lane.Count o) (bits w)) s.low s.low s.low
-        → Each3 (bits w) r.high (lane_of (lane.Count o) (bits w)) s.high s.high s.high
-        → r ≡ register (value_of m x)
-    counted o row low high =
-        let hs = words_of held in
-        of-value (rw (← row, ← width, ← held.exact) (both_words (lane.Count o) w s s s r hs hs hs low high))
-
-    -- t has the immediate in every element
-    pub saturated : (o : Saturate) {t : Register} {i : ℕ} → i ≡ imm_of x → t ≡ register (filled (bits w) i)
-        → bit_of (bit.Saturate o) (bits (width_of x)) (source_in m x) (source_in m x) (imm_of x) ≡ value_at m x k
-        → Each3 (bits w) r.low (lane_of (lane.Bit (bit.Saturate o)) (bits w)) s.low s.low t.low
-        → Each3 (bits w) r.high (lane_of (lane.Bit (bit.Saturate o)) (bits w)) s.high s.high t.high
-        → r ≡ register (value_of m x)
-    saturated o {t} {i} imm is row low high =
-        let hs = words_of held in
-        let all : Holds t (filled (bits w) i) =
-        (record { is = is; exact = ap value is ∙ value-filled (shares w) i }) in
-        of-value
-        (rw (← row, ← width, ← held.exact, ← imm, ← all.exact)
-        (both_words (lane.Bit (bit.Saturate o)) w s s t r hs hs (words_of all) low high))
-
-  pub multiplied : (o : Fixed) {v : Width} {d s t : Register} → fixed_in m x (fixed_of o) ≡ value_at m x k
-      → v ≡ narrow_of x → Holds d (dest_in m x) → Holds s (source_in m x) → Holds t (last_in m x)
-      → Each3 (bits v) r.low (lane_of (lane.Fixed o) (bits v)) d.low s.low t.low
-      → Each3 (bits v) r.high (lane_of (lane.Fixed o) (bits v)) d.high s.high t.high
+  -- t has the immediate in every element
+  pub saturated : (o : Saturate) {w : Width} {s t : Register} {i : ℕ} → w ≡ width_of x → Holds s (source_in m x)
+      → i ≡ imm_of x → t ≡ register (filled (bits w) i)
+      → bit_of (bit.Saturate o) (bits (width_of x)) (source_in m x) (source_in m x) (imm_of x) ≡ value_at m x k
+      → Each3 (bits w) r.low (lane_of (lane.Bit (bit.Saturate o)) (bits w)) s.low s.low t.low
+      → Each3 (bits w) r.high (lane_of (lane.Bit (bit.Saturate o)) (bits w)) s.high s.high t.high
       → r ≡ register (value_of m x)
-  multiplied o {v} {d} {s} {t} row narrow first second third low high =
+  saturated o {w} {s} {t} {i} width held imm is row low high =
+      let hs = words_of held in
+      let all : Holds t (filled (bits w) i) =
+      (record { is = is; exact = ap value is ∙ value-filled (shares w) i }) in
       of-value
-      (rw (← row, ← narrow, ← first.exact, ← second.exact, ← third.exact)
-      (both_words (lane.Fixed o) v d s t r (words_of first) (words_of second) (words_of third) low high))
+      (rw (← row, ← width, ← held.exact, ← imm, ← all.exact)
+      (both_words (lane.Bit (bit.Saturate o)) w s s t r hs hs (words_of all) low high))

@@ -1,14 +1,14 @@
-// The operands of an entry that are a register or an immediate, as its flag says.
+// The operands of an entry: its registers, and those that are a register or an immediate, as its flag says.
 ghost use Rattle.std.specs.Prelude.{◌≡◌, cond, ◌-◌, ◌^◌, length};
 ghost use Rattle.isa.specs.Widths.{bits};
 ghost use Rattle.memory.specs.File.{register_at};
 ghost use Rattle.memory.specs.Value.{value, register, Holds};
 ghost use Rattle.vectors.specs.Register.{element, filled};
 ghost use Rattle.plan.specs.Plan.{general_at};
-ghost use Rattle.entries.specs.Cut.{width_of, flag_of, source_of, third_of, extended_of};
+ghost use Rattle.entries.specs.Cut.{width_of, flag_of, dest_of, source_of, third_of, extended_of};
 ghost use Rattle.acts.specs.Act.{vreg, greg};
 
-use entries::parts::{extended, flag_of, source_of, third_of, width_of};
+use entries::parts::{dest_of, extended, flag_of, source_of, third_of, width_of};
 use isa::widths::width_code;
 use isa::{Greg, Vreg, Width};
 use memory::Register;
@@ -35,6 +35,30 @@ pub fn spread(w: Width, x: u64) -> Register
     }
 }
 
+// The register d.
+pub(crate) fn dest(e: u64, vectors: &[u8]) -> Register
+    requires { length vectors.now ≡ 512 }
+    ensures { Holds result (register_at vectors.now (vreg (dest_of e))) }
+{
+    read_register(vectors, Vreg(dest_of(e)))
+}
+
+// The register s.
+pub(crate) fn source(e: u64, vectors: &[u8]) -> Register
+    requires { length vectors.now ≡ 512 }
+    ensures { Holds result (register_at vectors.now (vreg (source_of e))) }
+{
+    read_register(vectors, Vreg(source_of(e)))
+}
+
+// The register t.
+pub(crate) fn last(e: u64, vectors: &[u8]) -> Register
+    requires { length vectors.now ≡ 512 }
+    ensures { Holds result (register_at vectors.now (vreg (third_of e))) }
+{
+    read_register(vectors, Vreg(third_of(e)))
+}
+
 // The register t, or the immediate in every element.
 pub fn third(e: u64, vectors: &[u8]) -> Register
     requires { length vectors.now ≡ 512 }
@@ -44,7 +68,7 @@ pub fn third(e: u64, vectors: &[u8]) -> Register
     if flag_of(e) {
         spread(width_of(e), extended(e))
     } else {
-        read_register(vectors, Vreg(third_of(e)))
+        last(e, vectors)
     }
 }
 

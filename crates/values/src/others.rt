@@ -2,21 +2,30 @@
 // that its operation needs, and no other.
 ghost use Rattle.std.specs.Prelude.{List, ◌≡◌, ℕ, ◌≤◌, length};
 ghost use Rattle.isa.specs.Widths.{bits};
-ghost use Rattle.memory.specs.Value.{register};
+ghost use Rattle.memory.specs.File.{register_at};
+ghost use Rattle.memory.specs.Value.{value, register};
 ghost use Rattle.state.specs.declared.control.Control.{Control};
 ghost use Rattle.state.specs.Machine.{machine};
-ghost use Rattle.acts.specs.Act.{narrow_of, value_of};
+ghost use Rattle.entries.specs.Cut.{dest_of, source_of, third_of};
+ghost use Rattle.forms.specs.Forms.{count_of, fixed_of};
+ghost use Rattle.acts.specs.Act.{narrow_of, value_of, vreg};
 
-use crate::operands::{inserted, scalar, spread};
-use entries::parts::{code_of, dest_of, imm_of, source_of, third_of, width_of};
-use isa::{Count, Fixed, Vreg, Width};
+use crate::operands::{dest, inserted, last, scalar, source, spread};
+use entries::parts::{code_of, imm_of, source_of, third_of, width_of};
+use isa::{Count, Fixed, Width};
 use memory::Register;
-use memory::file::read_register;
 use parallel_bits::places;
 use parallel_counts::count_word;
 use parallel_products::fixed_point::fixed;
 use permute::moves::splat;
 use permute::{insert, shf, slide};
+use vectors::words::{by_three_words, by_words};
+
+fn counted(op: Count, w: Width, s: Register) -> Register
+    ensures { result ≡ register (count_of op (bits w) (value s)) }
+{
+    by_words(s, s, |s, _| count_word(op, w, s))
+}
 
 // The fixed-point multiplies have H and W alone.
 fn narrow(e: u64) -> Width
@@ -25,130 +34,56 @@ fn narrow(e: u64) -> Width
     if e / 256 % 4 == 1 { Width::H } else { Width::W }
 }
 
+fn multiplied(op: Fixed, e: u64, vectors: &[u8]) -> Register
+    requires { length vectors.now ≡ 512 }
+    ensures { let file = vectors.now in
+        result ≡ register (fixed_of op (bits (narrow_of e)) (register_at file (vreg (dest_of e)))
+        (register_at file (vreg (source_of e))) (register_at file (vreg (third_of e)))) }
+{
+    let d = dest(e, vectors);
+    let s = source(e, vectors);
+    let t = last(e, vectors);
+    let v = narrow(e);
+    by_three_words(d, s, t, |d, s, t| fixed(op, v, d, s, t))
+}
+
 pub fn other(e: u64, vectors: &[u8], generals: &[u8]) -> Register
     requires { (length vectors.now ≡ 512) × (length generals.now ≡ 256) }
     ensures { (work : List ℕ) (c : Control) → result ≡ register
         (value_of (machine vectors.now generals.now work c) e) }
 {
     let w = width_of(e);
-    let k = code_of(e);
-    match k {
-        88 => {
-            let d = read_register(vectors, Vreg(dest_of(e)));
-            let s = read_register(vectors, Vreg(source_of(e)));
-            slide(w, d, s, scalar(e, third_of(e), generals))
-        }
-        89 => {
-            let s = read_register(vectors, Vreg(source_of(e)));
-            splat(w, s, scalar(e, third_of(e), generals))
-        }
+    match code_of(e) {
+        88 => slide(
+            w,
+            dest(e, vectors),
+            source(e, vectors),
+            scalar(e, third_of(e), generals),
+        ),
+        89 => splat(w, source(e, vectors), scalar(e, third_of(e), generals)),
         90 => {
-            let s = read_register(vectors, Vreg(source_of(e)));
-            let t = spread(w, imm_of(e));
-            Register {
-                low: places::sat_s(w, s.low, t.low),
-                high: places::sat_s(w, s.high, t.high),
-            }
+            let s = source(e, vectors);
+            by_words(s, spread(w, imm_of(e)), |s, t| places::sat_s(w, s, t))
         }
         91 => {
-            let s = read_register(vectors, Vreg(source_of(e)));
-            let t = spread(w, imm_of(e));
-            Register {
-                low: places::sat_u(w, s.low, t.low),
-                high: places::sat_u(w, s.high, t.high),
-            }
+            let s = source(e, vectors);
+            by_words(s, spread(w, imm_of(e)), |s, t| places::sat_u(w, s, t))
         }
         92 => spread(w, scalar(e, source_of(e), generals)),
-        93 => {
-            let s = read_register(vectors, Vreg(source_of(e)));
-            shf(w, s, (imm_of(e) % 256) as u8)
-        }
+        93 => shf(w, source(e, vectors), (imm_of(e) % 256) as u8),
         94 => {
-            let d = read_register(vectors, Vreg(dest_of(e)));
-            let s = read_register(vectors, Vreg(source_of(e)));
-            insert(w, d, imm_of(e), inserted(e, s, generals))
+            let s = source(e, vectors);
+            insert(w, dest(e, vectors), imm_of(e), inserted(e, s, generals))
         }
-        95 => read_register(vectors, Vreg(source_of(e))),
-        96 => {
-            let s = read_register(vectors, Vreg(source_of(e)));
-            Register {
-                low: count_word(Count::Pcnt, w, s.low),
-                high: count_word(Count::Pcnt, w, s.high),
-            }
-        }
-        97 => {
-            let s = read_register(vectors, Vreg(source_of(e)));
-            Register {
-                low: count_word(Count::Nloc, w, s.low),
-                high: count_word(Count::Nloc, w, s.high),
-            }
-        }
-        98 => {
-            let s = read_register(vectors, Vreg(source_of(e)));
-            Register {
-                low: count_word(Count::Nlzc, w, s.low),
-                high: count_word(Count::Nlzc, w, s.high),
-            }
-        }
-        99 => {
-            let d = read_register(vectors, Vreg(dest_of(e)));
-            let s = read_register(vectors, Vreg(source_of(e)));
-            let t = read_register(vectors, Vreg(third_of(e)));
-            let v = narrow(e);
-            Register {
-                low: fixed(Fixed::MulQ, v, d.low, s.low, t.low),
-                high: fixed(Fixed::MulQ, v, d.high, s.high, t.high),
-            }
-        }
-        100 => {
-            let d = read_register(vectors, Vreg(dest_of(e)));
-            let s = read_register(vectors, Vreg(source_of(e)));
-            let t = read_register(vectors, Vreg(third_of(e)));
-            let v = narrow(e);
-            Register {
-                low: fixed(Fixed::MaddQ, v, d.low, s.low, t.low),
-                high: fixed(Fixed::MaddQ, v, d.high, s.high, t.high),
-            }
-        }
-        101 => {
-            let d = read_register(vectors, Vreg(dest_of(e)));
-            let s = read_register(vectors, Vreg(source_of(e)));
-            let t = read_register(vectors, Vreg(third_of(e)));
-            let v = narrow(e);
-            Register {
-                low: fixed(Fixed::MsubQ, v, d.low, s.low, t.low),
-                high: fixed(Fixed::MsubQ, v, d.high, s.high, t.high),
-            }
-        }
-        102 => {
-            let d = read_register(vectors, Vreg(dest_of(e)));
-            let s = read_register(vectors, Vreg(source_of(e)));
-            let t = read_register(vectors, Vreg(third_of(e)));
-            let v = narrow(e);
-            Register {
-                low: fixed(Fixed::MulrQ, v, d.low, s.low, t.low),
-                high: fixed(Fixed::MulrQ, v, d.high, s.high, t.high),
-            }
-        }
-        103 => {
-            let d = read_register(vectors, Vreg(dest_of(e)));
-            let s = read_register(vectors, Vreg(source_of(e)));
-            let t = read_register(vectors, Vreg(third_of(e)));
-            let v = narrow(e);
-            Register {
-                low: fixed(Fixed::MaddrQ, v, d.low, s.low, t.low),
-                high: fixed(Fixed::MaddrQ, v, d.high, s.high, t.high),
-            }
-        }
-        _ => {
-            let d = read_register(vectors, Vreg(dest_of(e)));
-            let s = read_register(vectors, Vreg(source_of(e)));
-            let t = read_register(vectors, Vreg(third_of(e)));
-            let v = narrow(e);
-            Register {
-                low: fixed(Fixed::MsubrQ, v, d.low, s.low, t.low),
-                high: fixed(Fixed::MsubrQ, v, d.high, s.high, t.high),
-            }
-        }
+        95 => source(e, vectors),
+        96 => counted(Count::Pcnt, w, source(e, vectors)),
+        97 => counted(Count::Nloc, w, source(e, vectors)),
+        98 => counted(Count::Nlzc, w, source(e, vectors)),
+        99 => multiplied(Fixed::MulQ, e, vectors),
+        100 => multiplied(Fixed::MaddQ, e, vectors),
+        101 => multiplied(Fixed::MsubQ, e, vectors),
+        102 => multiplied(Fixed::MulrQ, e, vectors),
+        103 => multiplied(Fixed::MaddrQ, e, vectors),
+        _ => multiplied(Fixed::MsubrQ, e, vectors),
     }
 }

@@ -7,15 +7,16 @@ ghost use Rattle.memory.specs.Value.{value, register};
 ghost use Rattle.entries.specs.Cut.{code_of, width_of, dest_of};
 ghost use Rattle.acts.specs.Act.{vector_of, vreg};
 
+use crate::operands::dest;
 use element::Reading;
-use entries::parts::{code_of, dest_of, width_of};
-use isa::{Logic, Vreg};
+use entries::parts::{code_of, width_of};
+use isa::Logic;
 use logic::logic_word;
 use memory::Register;
-use memory::file::read_register;
 use parallel::{clipped, compares, means, wrapping};
 use parallel_bits::{places, shifting};
 use permute::vshf;
+use vectors::words::{by_three_words, by_words};
 
 pub fn quick(e: u64, s: Register, t: Register, vectors: &[u8]) -> Register
     requires { (length vectors.now ≡ 512) × (8 ≤ code_of e) × (code_of e < 56) }
@@ -23,194 +24,68 @@ pub fn quick(e: u64, s: Register, t: Register, vectors: &[u8]) -> Register
         (register_at vectors.now (vreg (dest_of e))) (value s) (value t)) }
 {
     let w = width_of(e);
-    let k = code_of(e);
-    match k {
-        8 => Register {
-            low: logic_word(Logic::And, s.low, s.low, t.low),
-            high: logic_word(Logic::And, s.high, s.high, t.high),
-        },
-        9 => Register {
-            low: logic_word(Logic::Or, s.low, s.low, t.low),
-            high: logic_word(Logic::Or, s.high, s.high, t.high),
-        },
-        10 => Register {
-            low: logic_word(Logic::Nor, s.low, s.low, t.low),
-            high: logic_word(Logic::Nor, s.high, s.high, t.high),
-        },
-        11 => Register {
-            low: logic_word(Logic::Xor, s.low, s.low, t.low),
-            high: logic_word(Logic::Xor, s.high, s.high, t.high),
-        },
-        12 => {
-            let d = read_register(vectors, Vreg(dest_of(e)));
-            Register {
-                low: logic_word(Logic::Bmnz, d.low, s.low, t.low),
-                high: logic_word(Logic::Bmnz, d.high, s.high, t.high),
-            }
-        }
-        13 => {
-            let d = read_register(vectors, Vreg(dest_of(e)));
-            Register {
-                low: logic_word(Logic::Bmz, d.low, s.low, t.low),
-                high: logic_word(Logic::Bmz, d.high, s.high, t.high),
-            }
-        }
-        14 => {
-            let d = read_register(vectors, Vreg(dest_of(e)));
-            Register {
-                low: logic_word(Logic::Bsel, d.low, s.low, t.low),
-                high: logic_word(Logic::Bsel, d.high, s.high, t.high),
-            }
-        }
-        16 => Register {
-            low: shifting::left(w, s.low, t.low),
-            high: shifting::left(w, s.high, t.high),
-        },
-        17 => Register {
-            low: shifting::shift_right(w, Reading::Signed, s.low, t.low),
-            high: shifting::shift_right(w, Reading::Signed, s.high, t.high),
-        },
-        18 => Register {
-            low: shifting::shift_right(w, Reading::Unsigned, s.low, t.low),
-            high: shifting::shift_right(w, Reading::Unsigned, s.high, t.high),
-        },
-        19 => Register {
-            low: places::bclr(w, s.low, t.low),
-            high: places::bclr(w, s.high, t.high),
-        },
-        20 => Register {
-            low: places::bset(w, s.low, t.low),
-            high: places::bset(w, s.high, t.high),
-        },
-        21 => Register {
-            low: places::bneg(w, s.low, t.low),
-            high: places::bneg(w, s.high, t.high),
-        },
-        22 => {
-            let d = read_register(vectors, Vreg(dest_of(e)));
-            Register {
-                low: places::binsl(w, d.low, s.low, t.low),
-                high: places::binsl(w, d.high, s.high, t.high),
-            }
-        }
-        23 => {
-            let d = read_register(vectors, Vreg(dest_of(e)));
-            Register {
-                low: places::binsr(w, d.low, s.low, t.low),
-                high: places::binsr(w, d.high, s.high, t.high),
-            }
-        }
-        24 => Register {
-            low: wrapping::sum(w, s.low, t.low),
-            high: wrapping::sum(w, s.high, t.high),
-        },
-        25 => Register {
-            low: wrapping::difference(w, s.low, t.low),
-            high: wrapping::difference(w, s.high, t.high),
-        },
-        26 => Register {
-            low: compares::larger(w, Reading::Signed, s.low, t.low),
-            high: compares::larger(w, Reading::Signed, s.high, t.high),
-        },
-        27 => Register {
-            low: compares::larger(w, Reading::Unsigned, s.low, t.low),
-            high: compares::larger(w, Reading::Unsigned, s.high, t.high),
-        },
-        28 => Register {
-            low: compares::smaller(w, Reading::Signed, s.low, t.low),
-            high: compares::smaller(w, Reading::Signed, s.high, t.high),
-        },
-        29 => Register {
-            low: compares::smaller(w, Reading::Unsigned, s.low, t.low),
-            high: compares::smaller(w, Reading::Unsigned, s.high, t.high),
-        },
-        30 => Register {
-            low: clipped::max_a(w, s.low, t.low),
-            high: clipped::max_a(w, s.high, t.high),
-        },
-        31 => Register {
-            low: clipped::min_a(w, s.low, t.low),
-            high: clipped::min_a(w, s.high, t.high),
-        },
-        32 => Register {
-            low: compares::equal(w, s.low, t.low),
-            high: compares::equal(w, s.high, t.high),
-        },
-        34 => Register {
-            low: compares::less(w, Reading::Signed, s.low, t.low),
-            high: compares::less(w, Reading::Signed, s.high, t.high),
-        },
-        35 => Register {
-            low: compares::less(w, Reading::Unsigned, s.low, t.low),
-            high: compares::less(w, Reading::Unsigned, s.high, t.high),
-        },
-        36 => Register {
-            low: compares::not_more(w, Reading::Signed, s.low, t.low),
-            high: compares::not_more(w, Reading::Signed, s.high, t.high),
-        },
-        37 => Register {
-            low: compares::not_more(w, Reading::Unsigned, s.low, t.low),
-            high: compares::not_more(w, Reading::Unsigned, s.high, t.high),
-        },
-        40 => Register {
-            low: clipped::add_a(w, s.low, t.low),
-            high: clipped::add_a(w, s.high, t.high),
-        },
-        41 => Register {
-            low: clipped::adds_a(w, s.low, t.low),
-            high: clipped::adds_a(w, s.high, t.high),
-        },
-        42 => Register {
-            low: clipped::adds_s(w, s.low, t.low),
-            high: clipped::adds_s(w, s.high, t.high),
-        },
-        43 => Register {
-            low: clipped::adds_u(w, s.low, t.low),
-            high: clipped::adds_u(w, s.high, t.high),
-        },
-        44 => Register {
-            low: means::average(w, Reading::Signed, s.low, t.low),
-            high: means::average(w, Reading::Signed, s.high, t.high),
-        },
-        45 => Register {
-            low: means::average(w, Reading::Unsigned, s.low, t.low),
-            high: means::average(w, Reading::Unsigned, s.high, t.high),
-        },
-        46 => Register {
-            low: means::average_up(w, Reading::Signed, s.low, t.low),
-            high: means::average_up(w, Reading::Signed, s.high, t.high),
-        },
-        47 => Register {
-            low: means::average_up(w, Reading::Unsigned, s.low, t.low),
-            high: means::average_up(w, Reading::Unsigned, s.high, t.high),
-        },
-        48 => Register {
-            low: clipped::subs_s(w, s.low, t.low),
-            high: clipped::subs_s(w, s.high, t.high),
-        },
-        49 => Register {
-            low: clipped::subs_u(w, s.low, t.low),
-            high: clipped::subs_u(w, s.high, t.high),
-        },
-        50 => Register {
-            low: clipped::subsus_u(w, s.low, t.low),
-            high: clipped::subsus_u(w, s.high, t.high),
-        },
-        51 => Register {
-            low: clipped::subsuu_s(w, s.low, t.low),
-            high: clipped::subsuu_s(w, s.high, t.high),
-        },
-        52 => Register {
-            low: clipped::asub(w, Reading::Signed, s.low, t.low),
-            high: clipped::asub(w, Reading::Signed, s.high, t.high),
-        },
-        53 => Register {
-            low: clipped::asub(w, Reading::Unsigned, s.low, t.low),
-            high: clipped::asub(w, Reading::Unsigned, s.high, t.high),
-        },
-        _ => {
-            let d = read_register(vectors, Vreg(dest_of(e)));
-            vshf(w, d, s, t)
-        }
+    match code_of(e) {
+        8 => by_words(s, t, |s, t| logic_word(Logic::And, s, s, t)),
+        9 => by_words(s, t, |s, t| logic_word(Logic::Or, s, s, t)),
+        10 => by_words(s, t, |s, t| logic_word(Logic::Nor, s, s, t)),
+        11 => by_words(s, t, |s, t| logic_word(Logic::Xor, s, s, t)),
+        12 => by_three_words(
+            dest(e, vectors),
+            s,
+            t,
+            |d, s, t| logic_word(Logic::Bmnz, d, s, t),
+        ),
+        13 => by_three_words(
+            dest(e, vectors),
+            s,
+            t,
+            |d, s, t| logic_word(Logic::Bmz, d, s, t),
+        ),
+        14 => by_three_words(
+            dest(e, vectors),
+            s,
+            t,
+            |d, s, t| logic_word(Logic::Bsel, d, s, t),
+        ),
+        16 => by_words(s, t, |s, t| shifting::left(w, s, t)),
+        17 => by_words(s, t, |s, t| shifting::shift_right(w, Reading::Signed, s, t)),
+        18 => by_words(
+            s,
+            t,
+            |s, t| shifting::shift_right(w, Reading::Unsigned, s, t),
+        ),
+        19 => by_words(s, t, |s, t| places::bclr(w, s, t)),
+        20 => by_words(s, t, |s, t| places::bset(w, s, t)),
+        21 => by_words(s, t, |s, t| places::bneg(w, s, t)),
+        22 => by_three_words(dest(e, vectors), s, t, |d, s, t| places::binsl(w, d, s, t)),
+        23 => by_three_words(dest(e, vectors), s, t, |d, s, t| places::binsr(w, d, s, t)),
+        24 => by_words(s, t, |s, t| wrapping::sum(w, s, t)),
+        25 => by_words(s, t, |s, t| wrapping::difference(w, s, t)),
+        26 => by_words(s, t, |s, t| compares::larger(w, Reading::Signed, s, t)),
+        27 => by_words(s, t, |s, t| compares::larger(w, Reading::Unsigned, s, t)),
+        28 => by_words(s, t, |s, t| compares::smaller(w, Reading::Signed, s, t)),
+        29 => by_words(s, t, |s, t| compares::smaller(w, Reading::Unsigned, s, t)),
+        30 => by_words(s, t, |s, t| clipped::max_a(w, s, t)),
+        31 => by_words(s, t, |s, t| clipped::min_a(w, s, t)),
+        32 => by_words(s, t, |s, t| compares::equal(w, s, t)),
+        34 => by_words(s, t, |s, t| compares::less(w, Reading::Signed, s, t)),
+        35 => by_words(s, t, |s, t| compares::less(w, Reading::Unsigned, s, t)),
+        36 => by_words(s, t, |s, t| compares::not_more(w, Reading::Signed, s, t)),
+        37 => by_words(s, t, |s, t| compares::not_more(w, Reading::Unsigned, s, t)),
+        40 => by_words(s, t, |s, t| clipped::add_a(w, s, t)),
+        41 => by_words(s, t, |s, t| clipped::adds_a(w, s, t)),
+        42 => by_words(s, t, |s, t| clipped::adds_s(w, s, t)),
+        43 => by_words(s, t, |s, t| clipped::adds_u(w, s, t)),
+        44 => by_words(s, t, |s, t| means::average(w, Reading::Signed, s, t)),
+        45 => by_words(s, t, |s, t| means::average(w, Reading::Unsigned, s, t)),
+        46 => by_words(s, t, |s, t| means::average_up(w, Reading::Signed, s, t)),
+        47 => by_words(s, t, |s, t| means::average_up(w, Reading::Unsigned, s, t)),
+        48 => by_words(s, t, |s, t| clipped::subs_s(w, s, t)),
+        49 => by_words(s, t, |s, t| clipped::subs_u(w, s, t)),
+        50 => by_words(s, t, |s, t| clipped::subsus_u(w, s, t)),
+        51 => by_words(s, t, |s, t| clipped::subsuu_s(w, s, t)),
+        52 => by_words(s, t, |s, t| clipped::asub(w, Reading::Signed, s, t)),
+        53 => by_words(s, t, |s, t| clipped::asub(w, Reading::Unsigned, s, t)),
+        _ => vshf(w, dest(e, vectors), s, t),
     }
 }

@@ -18,6 +18,7 @@ use parallel_bits::shifting;
 use parallel_halves::{hadd, hsub};
 use parallel_products::{division, dot, product};
 use permute::{pack, vshf};
+use vectors::words::{by_three_words, by_words};
 
 fn pack_at(c: u64) -> Pack
     requires { (74 ≤ c) × (c < 80) }
@@ -38,12 +39,10 @@ fn permuted(c: u64, w: Width, d: Register, s: Register, t: Register) -> Register
     requires { permutes c ≡ true }
     ensures { result ≡ register (three_of (three_at (c + 88)) (bits w) (value d) (value s) (value t)) }
 {
-    if 73 < c {
-        if c < 80 {
-            return pack(pack_at(c), w, s, t);
-        }
+    match c {
+        74..=79 => pack(pack_at(c), w, s, t),
+        _ => vshf(w, d, s, t),
     }
-    vshf(w, d, s, t)
 }
 
 pub fn seldom(e: u64, d: Register, s: Register, t: Register) -> Register
@@ -54,82 +53,37 @@ pub fn seldom(e: u64, d: Register, s: Register, t: Register) -> Register
     let w = width_of(e);
     let k = code_of(e);
     match k {
-        56 => Register {
-            low: product::mulv(w, s.low, t.low),
-            high: product::mulv(w, s.high, t.high),
-        },
-        57 => Register {
-            low: product::maddv(w, d.low, s.low, t.low),
-            high: product::maddv(w, d.high, s.high, t.high),
-        },
-        58 => Register {
-            low: product::msubv(w, d.low, s.low, t.low),
-            high: product::msubv(w, d.high, s.high, t.high),
-        },
-        60 => Register {
-            low: division::quotients(w, Reading::Signed, s.low, t.low),
-            high: division::quotients(w, Reading::Signed, s.high, t.high),
-        },
-        61 => Register {
-            low: division::quotients(w, Reading::Unsigned, s.low, t.low),
-            high: division::quotients(w, Reading::Unsigned, s.high, t.high),
-        },
-        62 => Register {
-            low: division::remainders(w, Reading::Signed, s.low, t.low),
-            high: division::remainders(w, Reading::Signed, s.high, t.high),
-        },
-        63 => Register {
-            low: division::remainders(w, Reading::Unsigned, s.low, t.low),
-            high: division::remainders(w, Reading::Unsigned, s.high, t.high),
-        },
-        64 => Register {
-            low: dot::dotp(w, Reading::Signed, s.low, t.low),
-            high: dot::dotp(w, Reading::Signed, s.high, t.high),
-        },
-        65 => Register {
-            low: dot::dotp(w, Reading::Unsigned, s.low, t.low),
-            high: dot::dotp(w, Reading::Unsigned, s.high, t.high),
-        },
-        66 => Register {
-            low: dot::dpadd(w, Reading::Signed, d.low, s.low, t.low),
-            high: dot::dpadd(w, Reading::Signed, d.high, s.high, t.high),
-        },
-        67 => Register {
-            low: dot::dpadd(w, Reading::Unsigned, d.low, s.low, t.low),
-            high: dot::dpadd(w, Reading::Unsigned, d.high, s.high, t.high),
-        },
-        68 => Register {
-            low: dot::dpsub(w, Reading::Signed, d.low, s.low, t.low),
-            high: dot::dpsub(w, Reading::Signed, d.high, s.high, t.high),
-        },
-        69 => Register {
-            low: dot::dpsub(w, Reading::Unsigned, d.low, s.low, t.low),
-            high: dot::dpsub(w, Reading::Unsigned, d.high, s.high, t.high),
-        },
-        81 => Register {
-            low: shifting::shift_rounded(w, Reading::Signed, s.low, t.low),
-            high: shifting::shift_rounded(w, Reading::Signed, s.high, t.high),
-        },
-        82 => Register {
-            low: shifting::shift_rounded(w, Reading::Unsigned, s.low, t.low),
-            high: shifting::shift_rounded(w, Reading::Unsigned, s.high, t.high),
-        },
-        84 => Register {
-            low: hadd(w, Reading::Signed, s.low, t.low),
-            high: hadd(w, Reading::Signed, s.high, t.high),
-        },
-        85 => Register {
-            low: hadd(w, Reading::Unsigned, s.low, t.low),
-            high: hadd(w, Reading::Unsigned, s.high, t.high),
-        },
-        86 => Register {
-            low: hsub(w, Reading::Signed, s.low, t.low),
-            high: hsub(w, Reading::Signed, s.high, t.high),
-        },
-        87 => Register {
-            low: hsub(w, Reading::Unsigned, s.low, t.low),
-            high: hsub(w, Reading::Unsigned, s.high, t.high),
-        },
+        56 => by_words(s, t, |s, t| product::mulv(w, s, t)),
+        57 => by_three_words(d, s, t, |d, s, t| product::maddv(w, d, s, t)),
+        58 => by_three_words(d, s, t, |d, s, t| product::msubv(w, d, s, t)),
+        60 => by_words(s, t, |s, t| division::quotients(w, Reading::Signed, s, t)),
+        61 => by_words(s, t, |s, t| division::quotients(w, Reading::Unsigned, s, t)),
+        62 => by_words(s, t, |s, t| division::remainders(w, Reading::Signed, s, t)),
+        63 => by_words(
+            s,
+            t,
+            |s, t| division::remainders(w, Reading::Unsigned, s, t),
+        ),
+        64 => by_words(s, t, |s, t| dot::dotp(w, Reading::Signed, s, t)),
+        65 => by_words(s, t, |s, t| dot::dotp(w, Reading::Unsigned, s, t)),
+        66 => by_three_words(d, s, t, |d, s, t| dot::dpadd(w, Reading::Signed, d, s, t)),
+        67 => by_three_words(d, s, t, |d, s, t| dot::dpadd(w, Reading::Unsigned, d, s, t)),
+        68 => by_three_words(d, s, t, |d, s, t| dot::dpsub(w, Reading::Signed, d, s, t)),
+        69 => by_three_words(d, s, t, |d, s, t| dot::dpsub(w, Reading::Unsigned, d, s, t)),
+        81 => by_words(
+            s,
+            t,
+            |s, t| shifting::shift_rounded(w, Reading::Signed, s, t),
+        ),
+        82 => by_words(
+            s,
+            t,
+            |s, t| shifting::shift_rounded(w, Reading::Unsigned, s, t),
+        ),
+        84 => by_words(s, t, |s, t| hadd(w, Reading::Signed, s, t)),
+        85 => by_words(s, t, |s, t| hadd(w, Reading::Unsigned, s, t)),
+        86 => by_words(s, t, |s, t| hsub(w, Reading::Signed, s, t)),
+        87 => by_words(s, t, |s, t| hsub(w, Reading::Unsigned, s, t)),
         _ => permuted(k, w, d, s, t),
     }
 }

@@ -9,13 +9,13 @@ ghost use Rattle.vectors.specs.Register.{filled, whole};
 ghost use Rattle.entries.specs.Cut.{width_of, flag_of, dest_of, source_of, third_of, extended_of};
 ghost use Rattle.acts.specs.Act.{vreg};
 
-use crate::operands::third;
-use entries::parts::{dest_of, flag_of, source_of, third_of, width_of};
+use crate::operands::{dest, source, third};
+use entries::parts::{flag_of, source_of, third_of, width_of};
 use isa::Vreg;
 use memory::Register;
-use memory::file::read_register;
 use permute::filed::chosen_in;
 use permute::vshf;
+use vectors::words::by_words;
 
 pub fn shuffled(e: u64, vectors: &[u8]) -> Register
     requires { length vectors.now ≡ 512 }
@@ -25,14 +25,11 @@ pub fn shuffled(e: u64, vectors: &[u8]) -> Register
         (cond (flag_of e) (filled n (extended_of e)) (register_at file (vreg (third_of e)))))) }
 {
     let w = width_of(e);
-    let d = read_register(vectors, Vreg(dest_of(e)));
-    let s = source_of(e);
+    let d = dest(e, vectors);
     if flag_of(e) {
-        return vshf(w, d, read_register(vectors, Vreg(s)), third(e, vectors));
+        return vshf(w, d, source(e, vectors), third(e, vectors));
     }
-    let t = third_of(e);
-    Register {
-        low: chosen_in(w, d.low, vectors, Vreg(s), Vreg(t)),
-        high: chosen_in(w, d.high, vectors, Vreg(s), Vreg(t)),
-    }
+    let s = Vreg(source_of(e));
+    let t = Vreg(third_of(e));
+    by_words(d, d, |d, _| chosen_in(w, d, vectors, s, t))
 }

@@ -2,6 +2,8 @@
 // them, so what is built element by element is built word by word.
 #![tactic(auto)]
 
+pub mod words;
+
 ghost use Rattle.std.specs.Prelude.{◌≡◌, ℕ, ◌+◌, ◌*◌, ◌/◌, ◌^◌, ◌<◌};
 ghost use Rattle.isa.specs.Widths.{bits};
 ghost use Rattle.element.specs.Elements.{Element};

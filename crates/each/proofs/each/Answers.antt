@@ -7,4 +7,4 @@ pub returns : goal.returns
 returns c =
     let a = c.args in
     both_words a.op a.w a.d a.s a.t _
-    (search rules) (search rules) (search rules) c.lane.ensures c.lane-2.ensures
+    (search rules) (search rules) (search rules) (search rules) (search rules)

@@ -8,4 +8,4 @@ pub returns : goal.returns
 returns c =
     let a = c.args in
     both_words (lane.Fixed a.op) a.w a.d a.s a.t _
-    (search rules) (search rules) (search rules) c.fixed.ensures c.fixed-2.ensures
+    (search rules) (search rules) (search rules) (search rules) (search rules)

@@ -4,7 +4,5 @@ use Rattle.logic.proofs.BitLaws.{both_bits}
 use Rattle.logic.proofs.logic.Goals as goal
 
 pub returns : goal.returns
-returns c =
-    let a = c.args in
-    both_bits a.op a.d a.s a.t _ (search rules) (search rules) (search rules) (search rules)
-    c.logic_word.ensures c.logic_word-2.ensures
+returns c = let a = c.args in
+    both_bits a.op a.d a.s a.t _ (search rules) (search rules) (search rules) (search rules) (search rules) (search rules)

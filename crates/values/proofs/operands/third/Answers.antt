@@ -19,9 +19,4 @@ returns-then-flag_of c = let w = c.width_of in
     })
 
 pub returns-else-flag_of : goal.returns-else-flag_of
-returns-else-flag_of c = rw (
-  ← c.flag_of.ensures,
-  c.if-flag_of.false,
-  ← c.third_of.ensures.0,
-)
-    c.read_register.ensures
+returns-else-flag_of c = rw (← c.flag_of.ensures, c.if-flag_of.false) c.last.ensures

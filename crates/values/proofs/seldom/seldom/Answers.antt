@@ -35,101 +35,97 @@ permuted-requires c = let pre = c.requires in
 pub returns-in-56 : goal.returns-in-56
 unfolding vector_of three_at each_lane
 returns-in-56 c = each2 _ c.in-56.is (search rules) c.width_of-w.ensures
-    (Arith (Product Mulv)) (λ n d s t. refl) c.mulv.ensures c.mulv-in-56.ensures
+    (Arith (Product Mulv)) (λ n d s t. refl) (search rules) (search rules)
 
 pub returns-in-57 : goal.returns-in-57
 unfolding vector_of three_at each_lane
 returns-in-57 c = each3 _ c.in-57.is (search rules) c.width_of-w.ensures
-    (holds (search rules) refl) (Arith (Product Maddv)) (λ n d s t. refl) c.maddv.ensures
-    c.maddv-in-57.ensures
+    (holds (search rules) refl) (Arith (Product Maddv)) (λ n d s t. refl) (search rules) (search rules)
 
 pub returns-in-58 : goal.returns-in-58
 unfolding vector_of three_at each_lane
 returns-in-58 c = each3 _ c.in-58.is (search rules) c.width_of-w.ensures
-    (holds (search rules) refl) (Arith (Product Msubv)) (λ n d s t. refl) c.msubv.ensures
-    c.msubv-in-58.ensures
+    (holds (search rules) refl) (Arith (Product Msubv)) (λ n d s t. refl) (search rules) (search rules)
 
 pub returns-in-60 : goal.returns-in-60
 unfolding vector_of three_at each_lane
 returns-in-60 c = each2 _ c.in-60.is (search rules) c.width_of-w.ensures
-    (Arith (Product DivS)) (λ n d s t. refl) c.quotients.ensures c.quotients-in-60.ensures
+    (Arith (Product DivS)) (λ n d s t. refl) (search rules) (search rules)
 
 pub returns-in-61 : goal.returns-in-61
 unfolding vector_of three_at each_lane
 returns-in-61 c = each2 _ c.in-61.is (search rules) c.width_of-w.ensures
-    (Arith (Product DivU)) (λ n d s t. refl) c.quotients-in-61.ensures c.quotients-in-61-2.ensures
+    (Arith (Product DivU)) (λ n d s t. refl) (search rules) (search rules)
 
 pub returns-in-62 : goal.returns-in-62
 unfolding vector_of three_at each_lane
 returns-in-62 c = each2 _ c.in-62.is (search rules) c.width_of-w.ensures
-    (Arith (Product ModS)) (λ n d s t. refl) c.remainders.ensures c.remainders-in-62.ensures
+    (Arith (Product ModS)) (λ n d s t. refl) (search rules) (search rules)
 
 pub returns-in-63 : goal.returns-in-63
 unfolding vector_of three_at each_lane
 returns-in-63 c = each2 _ c.in-63.is (search rules) c.width_of-w.ensures
-    (Arith (Product ModU)) (λ n d s t. refl) c.remainders-in-63.ensures c.remainders-in-63-2.ensures
+    (Arith (Product ModU)) (λ n d s t. refl) (search rules) (search rules)
 
 pub returns-in-64 : goal.returns-in-64
 unfolding vector_of three_at each_lane
 returns-in-64 c = each2 _ c.in-64.is (search rules) c.width_of-w.ensures
-    (Arith (Dot DotpS)) (λ n d s t. refl) c.dotp.ensures c.dotp-in-64.ensures
+    (Arith (Dot DotpS)) (λ n d s t. refl) (search rules) (search rules)
 
 pub returns-in-65 : goal.returns-in-65
 unfolding vector_of three_at each_lane
 returns-in-65 c = each2 _ c.in-65.is (search rules) c.width_of-w.ensures
-    (Arith (Dot DotpU)) (λ n d s t. refl) c.dotp-in-65.ensures c.dotp-in-65-2.ensures
+    (Arith (Dot DotpU)) (λ n d s t. refl) (search rules) (search rules)
 
 pub returns-in-66 : goal.returns-in-66
 unfolding vector_of three_at each_lane
 returns-in-66 c = each3 _ c.in-66.is (search rules) c.width_of-w.ensures
-    (holds (search rules) refl) (Arith (Dot DpaddS)) (λ n d s t. refl) c.dpadd.ensures c.dpadd-in-66.ensures
+    (holds (search rules) refl) (Arith (Dot DpaddS)) (λ n d s t. refl) (search rules) (search rules)
 
 pub returns-in-67 : goal.returns-in-67
 unfolding vector_of three_at each_lane
 returns-in-67 c = each3 _ c.in-67.is (search rules) c.width_of-w.ensures
-    (holds (search rules) refl) (Arith (Dot DpaddU)) (λ n d s t. refl) c.dpadd-in-67.ensures
-    c.dpadd-in-67-2.ensures
+    (holds (search rules) refl) (Arith (Dot DpaddU)) (λ n d s t. refl) (search rules) (search rules)
 
 pub returns-in-68 : goal.returns-in-68
 unfolding vector_of three_at each_lane
 returns-in-68 c = each3 _ c.in-68.is (search rules) c.width_of-w.ensures
-    (holds (search rules) refl) (Arith (Dot DpsubS)) (λ n d s t. refl) c.dpsub.ensures c.dpsub-in-68.ensures
+    (holds (search rules) refl) (Arith (Dot DpsubS)) (λ n d s t. refl) (search rules) (search rules)
 
 pub returns-in-69 : goal.returns-in-69
 unfolding vector_of three_at each_lane
 returns-in-69 c = each3 _ c.in-69.is (search rules) c.width_of-w.ensures
-    (holds (search rules) refl) (Arith (Dot DpsubU)) (λ n d s t. refl) c.dpsub-in-69.ensures
-    c.dpsub-in-69-2.ensures
+    (holds (search rules) refl) (Arith (Dot DpsubU)) (λ n d s t. refl) (search rules) (search rules)
 
 pub returns-in-81 : goal.returns-in-81
 unfolding vector_of three_at each_lane
 returns-in-81 c = each2 _ c.in-81.is (search rules) c.width_of-w.ensures
-    (Bit (Rounding Srar)) (λ n d s t. refl) c.shift_rounded.ensures c.shift_rounded-in-81.ensures
+    (Bit (Rounding Srar)) (λ n d s t. refl) (search rules) (search rules)
 
 pub returns-in-82 : goal.returns-in-82
 unfolding vector_of three_at each_lane
 returns-in-82 c = each2 _ c.in-82.is (search rules) c.width_of-w.ensures
-    (Bit (Rounding Srlr)) (λ n d s t. refl) c.shift_rounded-in-82.ensures c.shift_rounded-in-82-2.ensures
+    (Bit (Rounding Srlr)) (λ n d s t. refl) (search rules) (search rules)
 
 pub returns-in-84 : goal.returns-in-84
 unfolding vector_of three_at each_lane
 returns-in-84 c = each2 _ c.in-84.is (search rules) c.width_of-w.ensures
-    (Arith (Across HaddS)) (λ n d s t. refl) c.hadd.ensures c.hadd-in-84.ensures
+    (Arith (Across HaddS)) (λ n d s t. refl) (search rules) (search rules)
 
 pub returns-in-85 : goal.returns-in-85
 unfolding vector_of three_at each_lane
 returns-in-85 c = each2 _ c.in-85.is (search rules) c.width_of-w.ensures
-    (Arith (Across HaddU)) (λ n d s t. refl) c.hadd-in-85.ensures c.hadd-in-85-2.ensures
+    (Arith (Across HaddU)) (λ n d s t. refl) (search rules) (search rules)
 
 pub returns-in-86 : goal.returns-in-86
 unfolding vector_of three_at each_lane
 returns-in-86 c = each2 _ c.in-86.is (search rules) c.width_of-w.ensures
-    (Arith (Across HsubS)) (λ n d s t. refl) c.hsub.ensures c.hsub-in-86.ensures
+    (Arith (Across HsubS)) (λ n d s t. refl) (search rules) (search rules)
 
 pub returns-in-87 : goal.returns-in-87
 unfolding vector_of three_at each_lane
 returns-in-87 c = each2 _ c.in-87.is (search rules) c.width_of-w.ensures
-    (Arith (Across HsubU)) (λ n d s t. refl) c.hsub-in-87.ensures c.hsub-in-87-2.ensures
+    (Arith (Across HsubU)) (λ n d s t. refl) (search rules) (search rules)
 
 pub returns-in_default : goal.returns-in_default
 unfolding vector_of three_at each_lane
