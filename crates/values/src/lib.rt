@@ -7,3 +7,4 @@ pub mod others;
 pub mod quick;
 pub mod seldom;
 pub mod shuffles;
+pub(crate) mod words;

@@ -11,6 +11,7 @@ ghost use Rattle.forms.specs.Forms.{count_of, fixed_of};
 ghost use Rattle.acts.specs.Act.{narrow_of, value_of, vreg};
 
 use crate::operands::{dest, inserted, last, scalar, source, spread};
+use crate::words::by_words;
 use entries::parts::{code_of, imm_of, source_of, third_of, width_of};
 use isa::{Count, Fixed, Width};
 use memory::Register;
@@ -19,12 +20,11 @@ use parallel_counts::count_word;
 use parallel_products::fixed_point::fixed;
 use permute::moves::splat;
 use permute::{insert, shf, slide};
-use vectors::words::{by_three_words, by_words};
 
 fn counted(op: Count, w: Width, s: Register) -> Register
     ensures { result ≡ register (count_of op (bits w) (value s)) }
 {
-    by_words(s, s, |s, _| count_word(op, w, s))
+    by_words!(s => count_word(op, w, s))
 }
 
 // The fixed-point multiplies have H and W alone.
@@ -44,7 +44,7 @@ fn multiplied(op: Fixed, e: u64, vectors: &[u8]) -> Register
     let s = source(e, vectors);
     let t = last(e, vectors);
     let v = narrow(e);
-    by_three_words(d, s, t, |d, s, t| fixed(op, v, d, s, t))
+    by_words!(d, s, t => fixed(op, v, d, s, t))
 }
 
 pub fn other(e: u64, vectors: &[u8], generals: &[u8]) -> Register
@@ -63,11 +63,13 @@ pub fn other(e: u64, vectors: &[u8], generals: &[u8]) -> Register
         89 => splat(w, source(e, vectors), scalar(e, third_of(e), generals)),
         90 => {
             let s = source(e, vectors);
-            by_words(s, spread(w, imm_of(e)), |s, t| places::sat_s(w, s, t))
+            let t = spread(w, imm_of(e));
+            by_words!(s, t => places::sat_s(w, s, t))
         }
         91 => {
             let s = source(e, vectors);
-            by_words(s, spread(w, imm_of(e)), |s, t| places::sat_u(w, s, t))
+            let t = spread(w, imm_of(e));
+            by_words!(s, t => places::sat_u(w, s, t))
         }
         92 => spread(w, scalar(e, source_of(e), generals)),
         93 => shf(w, source(e, vectors), (imm_of(e) % 256) as u8),

@@ -10,7 +10,8 @@ ghost use Rattle.entries.specs.Cut.{code_of, width_of};
 ghost use Rattle.acts.specs.Act.{vector_of};
 ghost use Rattle.values.specs.Permuted.{permutes};
 
-use element::Reading;
+use crate::words::by_words;
+use element::Reading::{Signed, Unsigned};
 use entries::parts::{code_of, width_of};
 use isa::{Pack, Width};
 use memory::Register;
@@ -18,7 +19,6 @@ use parallel_bits::shifting;
 use parallel_halves::{hadd, hsub};
 use parallel_products::{division, dot, product};
 use permute::{pack, vshf};
-use vectors::words::{by_three_words, by_words};
 
 fn pack_at(c: u64) -> Pack
     requires { (74 ≤ c) × (c < 80) }
@@ -53,37 +53,25 @@ pub fn seldom(e: u64, d: Register, s: Register, t: Register) -> Register
     let w = width_of(e);
     let k = code_of(e);
     match k {
-        56 => by_words(s, t, |s, t| product::mulv(w, s, t)),
-        57 => by_three_words(d, s, t, |d, s, t| product::maddv(w, d, s, t)),
-        58 => by_three_words(d, s, t, |d, s, t| product::msubv(w, d, s, t)),
-        60 => by_words(s, t, |s, t| division::quotients(w, Reading::Signed, s, t)),
-        61 => by_words(s, t, |s, t| division::quotients(w, Reading::Unsigned, s, t)),
-        62 => by_words(s, t, |s, t| division::remainders(w, Reading::Signed, s, t)),
-        63 => by_words(
-            s,
-            t,
-            |s, t| division::remainders(w, Reading::Unsigned, s, t),
-        ),
-        64 => by_words(s, t, |s, t| dot::dotp(w, Reading::Signed, s, t)),
-        65 => by_words(s, t, |s, t| dot::dotp(w, Reading::Unsigned, s, t)),
-        66 => by_three_words(d, s, t, |d, s, t| dot::dpadd(w, Reading::Signed, d, s, t)),
-        67 => by_three_words(d, s, t, |d, s, t| dot::dpadd(w, Reading::Unsigned, d, s, t)),
-        68 => by_three_words(d, s, t, |d, s, t| dot::dpsub(w, Reading::Signed, d, s, t)),
-        69 => by_three_words(d, s, t, |d, s, t| dot::dpsub(w, Reading::Unsigned, d, s, t)),
-        81 => by_words(
-            s,
-            t,
-            |s, t| shifting::shift_rounded(w, Reading::Signed, s, t),
-        ),
-        82 => by_words(
-            s,
-            t,
-            |s, t| shifting::shift_rounded(w, Reading::Unsigned, s, t),
-        ),
-        84 => by_words(s, t, |s, t| hadd(w, Reading::Signed, s, t)),
-        85 => by_words(s, t, |s, t| hadd(w, Reading::Unsigned, s, t)),
-        86 => by_words(s, t, |s, t| hsub(w, Reading::Signed, s, t)),
-        87 => by_words(s, t, |s, t| hsub(w, Reading::Unsigned, s, t)),
+        56 => by_words!(s, t => product::mulv(w, s, t)),
+        57 => by_words!(d, s, t => product::maddv(w, d, s, t)),
+        58 => by_words!(d, s, t => product::msubv(w, d, s, t)),
+        60 => by_words!(s, t => division::quotients(w, Signed, s, t)),
+        61 => by_words!(s, t => division::quotients(w, Unsigned, s, t)),
+        62 => by_words!(s, t => division::remainders(w, Signed, s, t)),
+        63 => by_words!(s, t => division::remainders(w, Unsigned, s, t)),
+        64 => by_words!(s, t => dot::dotp(w, Signed, s, t)),
+        65 => by_words!(s, t => dot::dotp(w, Unsigned, s, t)),
+        66 => by_words!(d, s, t => dot::dpadd(w, Signed, d, s, t)),
+        67 => by_words!(d, s, t => dot::dpadd(w, Unsigned, d, s, t)),
+        68 => by_words!(d, s, t => dot::dpsub(w, Signed, d, s, t)),
+        69 => by_words!(d, s, t => dot::dpsub(w, Unsigned, d, s, t)),
+        81 => by_words!(s, t => shifting::shift_rounded(w, Signed, s, t)),
+        82 => by_words!(s, t => shifting::shift_rounded(w, Unsigned, s, t)),
+        84 => by_words!(s, t => hadd(w, Signed, s, t)),
+        85 => by_words!(s, t => hadd(w, Unsigned, s, t)),
+        86 => by_words!(s, t => hsub(w, Signed, s, t)),
+        87 => by_words!(s, t => hsub(w, Unsigned, s, t)),
         _ => permuted(k, w, d, s, t),
     }
 }

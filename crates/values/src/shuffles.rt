@@ -10,12 +10,12 @@ ghost use Rattle.entries.specs.Cut.{width_of, flag_of, dest_of, source_of, third
 ghost use Rattle.acts.specs.Act.{vreg};
 
 use crate::operands::{dest, source, third};
+use crate::words::by_words;
 use entries::parts::{flag_of, source_of, third_of, width_of};
 use isa::Vreg;
 use memory::Register;
 use permute::filed::chosen_in;
 use permute::vshf;
-use vectors::words::by_words;
 
 pub fn shuffled(e: u64, vectors: &[u8]) -> Register
     requires { length vectors.now ≡ 512 }
@@ -31,5 +31,5 @@ pub fn shuffled(e: u64, vectors: &[u8]) -> Register
     }
     let s = Vreg(source_of(e));
     let t = Vreg(third_of(e));
-    by_words(d, d, |d, _| chosen_in(w, d, vectors, s, t))
+    by_words!(d => chosen_in(w, d, vectors, s, t))
 }

@@ -31,18 +31,18 @@ pub returns-in-90 : goal.returns-in-90
 unfolding each_lane
 returns-in-90 c work control = let a = c.args in
     saturated (machine a.vectors.now a.generals.now work control) _ c.in-90.is c.code_of.ensures.0 SatS
-    c.width_of-w.ensures c.source-s.ensures c.imm_of.ensures.0 c.spread.ensures refl (search rules) (search rules)
+    c.width_of-w.ensures c.source-s.ensures c.imm_of.ensures.0 c.spread-t.ensures refl (search rules) (search rules)
 
 pub returns-in-91 : goal.returns-in-91
 unfolding each_lane
 returns-in-91 c work control = let a = c.args in
     saturated (machine a.vectors.now a.generals.now work control) _ c.in-91.is c.code_of.ensures.0 SatU
-    c.width_of-w.ensures c.source-s-in-91.ensures c.imm_of-in-91.ensures.0 c.spread-in-91.ensures refl (search rules) (search rules)
+    c.width_of-w.ensures c.source-s-in-91.ensures c.imm_of-in-91.ensures.0 c.spread-t-in-91.ensures refl (search rules) (search rules)
 
 pub returns-in-92 : goal.returns-in-92
 returns-in-92 c work control = let a = c.args in
     of-value (machine a.vectors.now a.generals.now work control) _ c.in-92.is c.code_of.ensures.0
-    (rw (← c.width_of-w.ensures, ← (rw c.source_of.ensures.0 at c.scalar-in-92.ensures)) c.spread-in-92.ensures)
+    (rw (← c.width_of-w.ensures, ← (rw c.source_of.ensures.0 at c.scalar-in-92.ensures)) c.spread.ensures)
 
 pub returns-in-93 : goal.returns-in-93
 returns-in-93 c work control = let a = c.args in

@@ -50,19 +50,19 @@ returns-in-11 c = bits2 _ c.in-11.is (search rules) (search rules)
 pub returns-in-12 : goal.returns-in-12
 unfolding vector_of three_at each_lane
 returns-in-12 c = bits3 _ c.in-12.is (search rules) (search rules)
-    c.dest.ensures Bmnz
+    c.dest-d.ensures Bmnz
     (λ n d s t. refl) (search rules) (search rules)
 
 pub returns-in-13 : goal.returns-in-13
 unfolding vector_of three_at each_lane
 returns-in-13 c = bits3 _ c.in-13.is (search rules) (search rules)
-    c.dest-in-13.ensures Bmz
+    c.dest-d-in-13.ensures Bmz
     (λ n d s t. refl) (search rules) (search rules)
 
 pub returns-in-14 : goal.returns-in-14
 unfolding vector_of three_at each_lane
 returns-in-14 c = bits3 _ c.in-14.is (search rules) (search rules)
-    c.dest-in-14.ensures Bsel
+    c.dest-d-in-14.ensures Bsel
     (λ n d s t. refl) (search rules) (search rules)
 
 pub returns-in-16 : goal.returns-in-16
@@ -98,13 +98,13 @@ returns-in-21 c = each2 _ c.in-21.is (search rules) c.width_of-w.ensures
 pub returns-in-22 : goal.returns-in-22
 unfolding vector_of three_at each_lane
 returns-in-22 c = each3 _ c.in-22.is (search rules) c.width_of-w.ensures
-    c.dest-in-22.ensures
+    c.dest-d-in-22.ensures
     (Bit (Bitwise Binsl)) (λ n d s t. refl) (search rules) (search rules)
 
 pub returns-in-23 : goal.returns-in-23
 unfolding vector_of three_at each_lane
 returns-in-23 c = each3 _ c.in-23.is (search rules) c.width_of-w.ensures
-    c.dest-in-23.ensures
+    c.dest-d-in-23.ensures
     (Bit (Bitwise Binsr)) (λ n d s t. refl) (search rules) (search rules)
 
 pub returns-in-24 : goal.returns-in-24
@@ -249,5 +249,5 @@ returns-in_default c = let k = c.code_of.result in
     let none : bare k ≡ true =
     left_over bare 8 56 codes refl k (rw code c.requires.1) (rw code c.requires.2) c.in_default.in_default-own.rest in
     chosen3 _ {c = k} refl (search rules) c.width_of-w.ensures
-    c.dest-in_default.ensures
+    c.dest.ensures
     (λ n d s t. unassigned k n d s t none) c.vshf.ensures
