@@ -5,13 +5,13 @@ use mathlib.Core.Bool.{not}
 use Prim.Native.Nat.{ℕ, ◌+◌, ◌-◌, ◌^◌, ◌≤◌, ◌<◌, min, max}
 use native.Mathlib.Omega.{arith}
 use lib.Dec.{ltb, leb}
-use lib.IntN.{ℤ, pos}
+use lib.IntN.{ℤ}
 use lib.Signed.{lt_z, le_z}
 use Rattle.element.specs.declared.Reading.{Reading}
 use Rattle.element.specs.declared.Reading.TheVariants.{Unsigned, Signed}
 use Rattle.element.specs.Elements.{Elements}
 use Rattle.element.specs.Value.{top, value, wrap, clamp, lowest, highest, sat}
-use Rattle.element.specs.Views.{flip, view, bias}
+use Rattle.element.specs.Views.{view, bias}
 use Rattle.element.proofs.Widths.{Size}
 use Rattle.element.proofs.Diff.{Diff, by-test, same_test, diff-pos, diff-neg, diff-to, diff-lt, leb-not, le_z-not}
 use Rattle.element.proofs.Views.{wrap-is, wrap-below, wrap-flip, flip-below, signed-diff}

@@ -1,5 +1,6 @@
-// One element of a vector register, a number below 2^bits: the numbers of its width, and the readings that the operations share.
-// All of it, and every operation but ADDV and SUBV (crate `linear`), is over the width: written and proved once for the four formats.
+// One element of a vector register, a number below 2^bits: the numbers of its width, and the readings that the
+// operations share. All of it, and every operation but ADDV and SUBV (crate `linear`), is over the width: written and
+// proved once for the four formats.
 #![tactic(auto)]
 
 ghost use Rattle.std.specs.Prelude.{◌≡◌, ◌-◌, ◌%◌, ◌^◌, ◌<◌};

@@ -77,6 +77,7 @@ pub fn indexed(op: Indexed, w: Width, d: Register, s: Register, x: u64) -> Regis
 }
 
 // The immediate of I5, carried to 64 bits with or without its sign.
+// signed is a truth value: the definitions (immediate, imm5_of) and the promise of plan::vector::imm5 take one.
 fn immediate(signed: bool, imm: u8) -> u64
     ensures { result ≡ forms.immediate signed imm }
 {

@@ -1,6 +1,6 @@
--- Sums and differences that wrap: what the wrapping operations of std give is ADDV and SUBV. One fact over the width, cited at each of
--- the four.
-use Rattle.std.proofs.Common.{◌≡◌, ℕ, ◌+◌, ◌-◌, ◌/◌, ◌%◌, ◌^◌, sym, refl, mod-lt, pow_pos, div-add-mod', arith}
+-- Sums and differences that wrap: what the wrapping operations of std give is ADDV and SUBV. One fact over the width,
+-- cited at each of the four.
+use Rattle.std.proofs.Common.{◌≡◌, ℕ, ◌+◌, ◌-◌, ◌/◌, ◌%◌, ◌^◌, sym, mod-lt, pow_pos, div-add-mod', arith}
 use native.Mathlib.Nat.{add-mod}
 use Rattle.element.proofs.Diff.{diff-pos, diff-minus}
 use Rattle.element.proofs.Views.{wrap-is}

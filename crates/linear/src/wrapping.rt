@@ -1,4 +1,5 @@
 // Sums and differences that wrap at the element's width, by std's wrapping operations at the four widths.
+// An arm for each width: a trait of the four number types, with its laws, would be longer and say no more.
 ghost use Rattle.std.specs.Prelude.{◌≡◌, ◌%◌, ◌^◌};
 ghost use Rattle.isa.specs.Widths.{bits};
 ghost use Rattle.element.specs.Elements.{Elements};

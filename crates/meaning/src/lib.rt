@@ -14,11 +14,11 @@ use isa::{
 };
 
 // What an operation of 3R does with three vector registers.
+#[tactic(auto, unfolding(ops::specs::Meaning::three_at))]
 pub fn three_at(op: Op) -> Three
     ensures { result ≡ three_at op.0 }
 {
-    let k = op.0;
-    match k {
+    match op.0 {
         104 => Three::Bitwise(Bitwise::Sll),
         105 => Three::Bitwise(Bitwise::Sra),
         106 => Three::Bitwise(Bitwise::Srl),
@@ -85,11 +85,11 @@ pub fn three_at(op: Op) -> Three
 }
 
 // What an operation does by an index: a general register of 3R, or the index of ELM.
+#[tactic(auto, unfolding(ops::specs::Meaning::indexed_at))]
 pub fn indexed_at(op: Op) -> Indexed
     ensures { result ≡ indexed_at op.0 }
 {
-    let k = op.0;
-    match k {
+    match op.0 {
         160 => Indexed::Sld,
         161 => Indexed::Splat,
         320 => Indexed::Sld,
@@ -99,11 +99,11 @@ pub fn indexed_at(op: Op) -> Indexed
 }
 
 // What an operation of I5 does.
+#[tactic(auto, unfolding(ops::specs::Meaning::imm5_at))]
 pub fn imm5_at(op: Op) -> Arith
     ensures { result ≡ imm5_at op.0 }
 {
-    let k = op.0;
-    match k {
+    match op.0 {
         48 => Arith::Basic(Basic::Addv),
         49 => Arith::Basic(Basic::Subv),
         51 => Arith::Basic(Basic::MaxU),
@@ -120,11 +120,11 @@ pub fn imm5_at(op: Op) -> Arith
 }
 
 // What an operation of BIT does.
+#[tactic(auto, unfolding(ops::specs::Meaning::bit_at))]
 pub fn bit_at(op: Op) -> BitOp
     ensures { result ≡ bit_at op.0 }
 {
-    let k = op.0;
-    match k {
+    match op.0 {
         72 => BitOp::Bitwise(Bitwise::Sll),
         73 => BitOp::Bitwise(Bitwise::Sra),
         74 => BitOp::Bitwise(Bitwise::Srl),
@@ -142,11 +142,11 @@ pub fn bit_at(op: Op) -> BitOp
 }
 
 // What an operation of I8 or VEC does.
+#[tactic(auto, unfolding(ops::specs::Meaning::logic_at))]
 pub fn logic_at(op: Op) -> Logic
     ensures { result ≡ logic_at op.0 }
 {
-    let k = op.0;
-    match k {
+    match op.0 {
         0 => Logic::And,
         1 => Logic::Or,
         2 => Logic::Nor,
@@ -166,22 +166,22 @@ pub fn logic_at(op: Op) -> Logic
 }
 
 // Which of COPY_S and COPY_U an operation is.
+#[tactic(auto, unfolding(ops::specs::Meaning::copied_at))]
 pub fn copied_at(op: Op) -> Copied
     ensures { result ≡ copied_at op.0 }
 {
-    if op.0 == 322 {
-        Copied::CopyS
-    } else {
-        Copied::CopyU
+    match op.0 {
+        322 => Copied::CopyS,
+        _ => Copied::CopyU,
     }
 }
 
 // What an operation of 2R counts.
+#[tactic(auto, unfolding(ops::specs::Meaning::count_at))]
 pub fn count_at(op: Op) -> Count
     ensures { result ≡ count_at op.0 }
 {
-    let k = op.0;
-    match k {
+    match op.0 {
         433 => Count::Pcnt,
         434 => Count::Nloc,
         435 => Count::Nlzc,
@@ -190,18 +190,22 @@ pub fn count_at(op: Op) -> Count
 }
 
 // Which of LD and ST an operation is.
+#[tactic(auto, unfolding(ops::specs::Meaning::memory_at))]
 pub fn memory_at(op: Op) -> Memory
     ensures { result ≡ memory_at op.0 }
 {
-    if op.0 == 256 { Memory::Ld } else { Memory::St }
+    match op.0 {
+        256 => Memory::Ld,
+        _ => Memory::St,
+    }
 }
 
 // Which of BZ and BNZ an operation is, with a format or without.
+#[tactic(auto, unfolding(ops::specs::Meaning::zero_at))]
 pub fn zero_at(op: Op) -> Zero
     ensures { result ≡ zero_at op.0 }
 {
-    let k = op.0;
-    match k {
+    match op.0 {
         446 => Zero::Bz,
         447 => Zero::Bnz,
         442 => Zero::Bz,
@@ -211,22 +215,22 @@ pub fn zero_at(op: Op) -> Zero
 }
 
 // Which of LSA and DLSA an operation is.
+#[tactic(auto, unfolding(ops::specs::Meaning::scaled_at))]
 pub fn scaled_at(op: Op) -> Scaled
     ensures { result ≡ scaled_at op.0 }
 {
-    if op.0 == 453 {
-        Scaled::Lsa
-    } else {
-        Scaled::Dlsa
+    match op.0 {
+        453 => Scaled::Lsa,
+        _ => Scaled::Dlsa,
     }
 }
 
 // What an operation of 3RF does.
+#[tactic(auto, unfolding(ops::specs::Meaning::fixed_at))]
 pub fn fixed_at(op: Op) -> Fixed
     ensures { result ≡ fixed_at op.0 }
 {
-    let k = op.0;
-    match k {
+    match op.0 {
         420 => Fixed::MulQ,
         421 => Fixed::MaddQ,
         422 => Fixed::MsubQ,

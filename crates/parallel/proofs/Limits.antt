@@ -1,5 +1,5 @@
 -- Sums and differences that are held to the signed range: where what wraps has left it, the limit is picked (Held).
-use mathlib.Core.Path.{◌≡◌, ap₂, ◌∙◌}
+use mathlib.Core.Path.{◌≡◌, ap₂}
 use mathlib.Core.Bool.{cond}
 use Prim.Native.Nat.{ℕ, ◌+◌, ◌-◌, ◌/◌, ◌^◌, ◌<◌}
 use lib.Bits.{bit_and, bit_xor}

@@ -10,7 +10,7 @@ use Rattle.element.specs.Value.{value, wrap}
 use Rattle.element.specs.Views.{view, bias}
 use Rattle.element.proofs.Readings.{value-diff}
 use Rattle.element.proofs.Views.{flip-below, mod-is, wrap-below}
-use Rattle.element.proofs.Widths.{size, half-size, low-low}
+use Rattle.element.proofs.Widths.{half-size, low-low}
 use Rattle.linear.specs.Sums.{addv}
 use Rattle.parallel.proofs.TopBit.{xor-top}
 use Rattle.products.specs.Halves.{dotp}

@@ -2,7 +2,7 @@
 use mathlib.Core.Path.{◌≡◌, refl, sym, ap, ap₂, ◌∙◌}
 use Prim.Native.Nat.{ℕ, zero, suc, ◌+◌, ◌-◌, ◌*◌, ◌/◌, ◌%◌, ◌^◌, ◌≤◌, ◌<◌}
 use native.Mathlib.Omega.{arith}
-use native.Mathlib.Nat.{mod-lt, mod-one, mul-zero, zero-mod, div-eq_of_lt, div-one, mul-le-mul_left, mul-le-mul_right, add-mul-div_right, add-mul-mod_self_right, mod-eq_of_lt}
+use native.Mathlib.Nat.{mod-lt, mod-one, mul-zero, zero-mod, div-eq_of_lt, div-one, mul-le-mul_right, add-mul-div_right, add-mul-mod_self_right, mod-eq_of_lt}
 use lib.Arith.{digits_div}
 use lib.Pow.{pow_pos, pow-add, shr-shr, mod-pow-add}
 use Rattle.vectors.specs.Register.{element, build}
@@ -79,7 +79,8 @@ module _ (n out : ℕ) {e : ℕ} (fits : e < 2 ^ n) where
     pub room-more : out < 2 ^ (n * (m - i)) → out * 2 ^ n + e < 2 ^ (n * (m - (i - 1)))
     room-more room =
         let more : m - (i - 1) ≡ suc (m - i) = omega arith in
-        rw (more, next n (m - i)) (omega (arith, mul-le-mul_right {m = suc out} {n = 2 ^ (n * (m - i))} (2 ^ n) (omega arith)))
+        rw (more, next n (m - i))
+        (omega (arith, mul-le-mul_right {m = suc out} {n = 2 ^ (n * (m - i))} (2 ^ n) (omega arith)))
 
     pub elements-more : (P : ℕ → ℕ → Type 0) → P (i - 1) e → ((j : ℕ) → j < m - i → P (i + j) (element n out j))
         → (j : ℕ) → j < m - (i - 1) → P (i - 1 + j) (element n (out * 2 ^ n + e) j)

@@ -1,6 +1,6 @@
 -- A register as two words: its elements are theirs, and what is built in two words is built whole.
 use mathlib.Core.Path.{◌≡◌, sym, ap, ap₂, ◌∙◌}
-use Prim.Native.Nat.{ℕ, ◌+◌, ◌-◌, ◌*◌, ◌/◌, ◌%◌, ◌^◌, ◌≤◌, ◌<◌}
+use Prim.Native.Nat.{ℕ, ◌+◌, ◌*◌, ◌/◌, ◌%◌, ◌^◌, ◌≤◌, ◌<◌}
 use native.Mathlib.Nat.{lt_of_lt_of_le, mod-lt, mod-eq_of_lt}
 use lib.Pow.{pow_pos, pow_mono}
 use Rattle.memory.specs.declared.Register.{Register}

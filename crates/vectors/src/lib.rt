@@ -1,5 +1,5 @@
-// Whole vector registers by their elements. A register is two words of 64 bits and no element of any format crosses them, so what is
-// built element by element is built word by word.
+// Whole vector registers by their elements. A register is two words of 64 bits and no element of any format crosses
+// them, so what is built element by element is built word by word.
 #![tactic(auto)]
 
 pub mod words;

@@ -2,7 +2,6 @@
 use Rattle.element.proofs.Views.{flip_down, flip_up}
 use Rattle.element.proofs.Widths.{size}
 use Rattle.isa.specs.Widths.{bits}
-use borrow.Author.Rules.{rules}
 use native.Mathlib.Omega.{arith}
 use Rattle.element.proofs.flip.Goals as goal
 

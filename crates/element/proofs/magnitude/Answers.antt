@@ -2,7 +2,6 @@
 use Rattle.element.proofs.Views.{magnitude-high, magnitude-low}
 use Rattle.element.proofs.Widths.{size}
 use Rattle.isa.specs.Widths.{bits}
-use borrow.Author.Rules.{rules}
 use mathlib.Core.Path.{sym}
 use native.Mathlib.Omega.{arith}
 use Rattle.element.proofs.magnitude.Goals as goal

@@ -45,9 +45,3 @@ returns c =
 
 pub overflow_add-q : goal.overflow_add-q
 overflow_add-q c = omega (arith, (rw (← c.flip-a.ensures.is, ← c.factor-b.ensures, ← c.rounding.ensures) at (product-room (bits c.args.w) (size c.args.w) c.requires.2 c.args.rounded c.args.minus c.requires.1.first c.requires.1.second)))
-
-pub nonzero_div-q : goal.nonzero_div-q
-nonzero_div-q c = omega (arith, c.half-one.ensures, size c.args.w)
-
-pub flip-requires-2 : goal.flip-requires-2
-flip-requires-2 c = omega (arith, c.clip.ensures, size c.args.w)

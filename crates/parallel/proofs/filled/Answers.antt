@@ -1,5 +1,4 @@
 -- `parallel::filled` meets its contract. A bit times all ones.
-use borrow.Author.Rules.{rules}
 use mathlib.Core.Bool.{cond}
 use Prim.Native.Nat.{ℕ, ◌-◌, ◌*◌, ◌/◌, ◌^◌}
 use native.Mathlib.Omega.{arith}

@@ -8,12 +8,6 @@ use Rattle.parallel.proofs.Words.{own, shr_lanes}
 use Prim.Native.Nat.{◌-◌}
 use Rattle.parallel.proofs.signs.Goals as goal
 
-pub overflow_sub-result : goal.overflow_sub-result
-overflow_sub-result c = omega (arith, c.count.ensures, size c.args.w)
-
-pub overflow_shr-result : goal.overflow_shr-result
-overflow_shr-result c = omega (arith, c.count.ensures, size c.args.w)
-
 pub returns : goal.returns
 returns c =
     let a = c.args in

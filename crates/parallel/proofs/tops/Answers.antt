@@ -1,5 +1,4 @@
 -- `parallel::tops` meets its contract. At each width the literal is the number built of top bits.
-use borrow.Author.Rules.{rules}
 use mathlib.Core.Path.{refl}
 use Prim.Native.Nat.{◌^◌, ◌<◌}
 use native.Mathlib.Omega.{arith}

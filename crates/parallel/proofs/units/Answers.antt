@@ -1,5 +1,4 @@
 -- `parallel::units` meets its contract. At each width the literal is the number built of ones.
-use borrow.Author.Rules.{rules}
 use mathlib.Core.Path.{refl}
 use Prim.Native.Nat.{◌^◌, ◌<◌}
 use native.Mathlib.Omega.{arith}

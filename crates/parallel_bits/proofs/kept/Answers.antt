@@ -1,22 +1,10 @@
 -- `parallel_bits::kept` meets its contract. The largest element, shifted.
-use borrow.Author.Rules.{rules}
 use native.Mathlib.Omega.{arith}
-use Rattle.element.proofs.Widths.{size}
 use Rattle.isa.specs.Widths.{bits}
 use Rattle.vectors.proofs.Sizes.{shares}
 use Rattle.parallel.proofs.Words.{same-lanes}
-use Prim.Native.Nat.{◌-◌, ◌^◌}
-use lib.Pow.{shr_le}
 use Rattle.parallel_bits.proofs.Amounts.{ones_shr}
 use Rattle.parallel_bits.proofs.kept.Goals as goal
-
-pub overflow_shr-ones : goal.overflow_shr-ones
-overflow_shr-ones c = omega (arith, c.requires, size c.args.w)
-
-pub spread_word-requires : goal.spread_word-requires
-spread_word-requires c =
-    let a = c.args in
-    rw c.ones.ensures (omega (arith, size a.w, shr_le (2 ^ bits a.w - 1) a.k))
 
 pub returns : goal.returns
 returns c =

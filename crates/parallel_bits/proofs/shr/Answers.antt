@@ -1,15 +1,11 @@
 -- `parallel_bits::shr` meets its contract. What came from the next element is taken off.
 use borrow.Author.Rules.{rules}
 use native.Mathlib.Omega.{arith}
-use Rattle.element.proofs.Widths.{size}
 use Rattle.isa.specs.Widths.{bits}
 use Rattle.vectors.proofs.Sizes.{shares}
 use Rattle.parallel.proofs.Words.{own, shr_lanes}
 use Prim.Native.Nat.{◌-◌}
 use Rattle.parallel_bits.proofs.shr.Goals as goal
-
-pub overflow_shr-result : goal.overflow_shr-result
-overflow_shr-result c = omega (arith, c.requires, size c.args.w)
 
 pub returns : goal.returns
 returns c =

@@ -1,7 +1,5 @@
 -- `parallel_bits::sll` meets its contract. What would leave the element is taken off first.
 use borrow.Author.Rules.{rules}
-use native.Mathlib.Omega.{arith}
-use Rattle.element.proofs.Widths.{size}
 use Rattle.isa.specs.Widths.{bits}
 use Rattle.vectors.proofs.Sizes.{shares}
 use Rattle.parallel.proofs.Words.{own, same-lanes, and-lanes, times-lanes}
@@ -11,9 +9,6 @@ use lib.Bits.{and_mask}
 use Rattle.vectors.specs.Register.{element}
 use Rattle.parallel_bits.proofs.Amounts.{moved-below, sll-lane}
 use Rattle.parallel_bits.proofs.sll.Goals as goal
-
-pub overflow_shl-result : goal.overflow_shl-result
-overflow_shl-result c = omega (arith, c.requires, size c.args.w)
 
 pub returns : goal.returns
 returns c =

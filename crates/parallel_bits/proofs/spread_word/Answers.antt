@@ -1,5 +1,4 @@
 -- `parallel_bits::spread_word` meets its contract. Each element is 1 times e.
-use borrow.Author.Rules.{rules}
 use native.Mathlib.Omega.{arith}
 use Rattle.vectors.proofs.Sizes.{shares}
 use Rattle.parallel.proofs.Words.{same-lanes, times-lanes}

@@ -1,5 +1,4 @@
 -- `parallel_counts::count_word` meets its contract. Each arm hands on what its function ensures.
-use borrow.Author.Rules.{rules}
 use mathlib.Core.Path.{ap}
 use lib.Count.{count_leading_zeros}
 use Rattle.isa.specs.Widths.{bits}
@@ -8,15 +7,9 @@ use Rattle.vectors.proofs.Sizes.{shares}
 use Rattle.parallel.proofs.Words.{same-lanes}
 use Rattle.parallel_counts.proofs.count_word.Goals as goal
 
-pub returns-in-Pcnt : goal.returns-in-Pcnt
-returns-in-Pcnt c = rw c.in-Pcnt.is c.pcnt.ensures
-
 pub returns-in-Nloc : goal.returns-in-Nloc
 unfolding nloc
 returns-in-Nloc c =
     let w = c.args.w in
     rw c.in-Nloc.is
     (same-lanes (shares w) c.nlzc.ensures (λ i l. ap (count_leading_zeros (bits w)) (c.inverse.ensures.at i l)))
-
-pub returns-in-Nlzc : goal.returns-in-Nlzc
-returns-in-Nlzc c = rw c.in-Nlzc.is c.nlzc-in-Nlzc.ensures

@@ -1,17 +1,10 @@
 -- `parallel_counts::nlzc` meets its contract. The ones of what a full run leaves, or each element by itself.
 use borrow.Author.Rules.{rules}
 use lib.Count.{count_leading_zeros}
-use lib.Dec.{lit<}
 use Rattle.isa.specs.declared.Width.TheVariants.{B, H}
 use Rattle.parallel_counts.proofs.Apart.{one_lane}
 use Rattle.parallel_counts.proofs.Runs.{runs-more, left_over}
 use Rattle.parallel_counts.proofs.nlzc.Goals as goal
-
-pub lowered-requires : goal.lowered-requires
-lowered-requires c = rw c.in-H.is (lit< tt)
-
-pub nlzc-requires : goal.nlzc-requires
-nlzc-requires c = rw c.in-D.is c.ranges.s.fits
 
 pub returns-in-B : goal.returns-in-B
 returns-in-B c =

@@ -1,7 +1,7 @@
 -- `parallel_counts::paired` meets its contract. The sum of two halves has room in the whole.
 use borrow.Author.Rules.{rules}
 use native.Mathlib.Omega.{arith}
-use Rattle.parallel_counts.proofs.Pairs.{half-below, pair-lanes}
+use Rattle.parallel_counts.proofs.Pairs.{pair-lanes}
 use Rattle.parallel_counts.proofs.paired.Goals as goal
 
 pub overflow_add-result : goal.overflow_add-result
@@ -13,6 +13,3 @@ pub returns : goal.returns
 returns c =
     let a = c.args in
     pair-lanes a.n c.requires.0 a.x a.m (search rules) c.requires.1
-
-pub overflow_shr-result : goal.overflow_shr-result
-overflow_shr-result c = half-below c.args.n c.requires.0

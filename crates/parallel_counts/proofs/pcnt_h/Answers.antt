@@ -1,5 +1,4 @@
 -- `parallel_counts::pcnt_h` meets its contract. Once more to counts of twice the width.
-use borrow.Author.Rules.{rules}
 use mathlib.Core.Path.{refl}
 use Rattle.vectors.specs.Register.{build}
 use Rattle.parallel_counts.proofs.Pairs.{low_halves, wider}
@@ -9,10 +8,6 @@ pub returns : goal.returns
 returns c =
     let top = c in
     wider 8 refl top.args.s top.ranges.s.fits c.pcnt_b.ensures c.paired.ensures
-
-pub pcnt_b-requires : goal.pcnt_b-requires
-unfolding build
-pcnt_b-requires c = search rules
 
 pub paired-requires : goal.paired-requires
 unfolding build

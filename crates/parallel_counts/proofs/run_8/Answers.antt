@@ -1,7 +1,6 @@
 -- `parallel_counts::run_8` meets its contract. Runs of 1, 2 and 4 become runs of twice as many.
-use native.Mathlib.Omega.{arith}
 use Rattle.isa.specs.Widths.{bits}
-use Rattle.parallel_counts.proofs.Runs.{runs-first, runs-more, at-least-8}
+use Rattle.parallel_counts.proofs.Runs.{runs-first, runs-more}
 use Rattle.parallel_counts.proofs.run_8.Goals as goal
 
 pub returns : goal.returns
@@ -14,12 +13,3 @@ returns c =
     let two = runs-more n s 1 s (runs-first n s) first.ensures in
     let four = runs-more n s 2 first.result two second.ensures in
     runs-more n s 4 second.result four c.lowered-3.ensures
-
-pub lowered-requires : goal.lowered-requires
-lowered-requires c = omega (arith, at-least-8 c.args.w)
-
-pub lowered-requires-2 : goal.lowered-requires-2
-lowered-requires-2 c = omega (arith, at-least-8 c.args.w)
-
-pub lowered-requires-3 : goal.lowered-requires-3
-lowered-requires-3 c = omega (arith, at-least-8 c.args.w)

@@ -1,6 +1,6 @@
 -- `parallel_halves::hadd` meets its contract. The sums of the halves, or of their views, have room (Sides).
 use native.Mathlib.Omega.{arith}
-use Rattle.parallel_halves.proofs.Sides.{high_small, low_small, sum-unsigned, sum-turned, sum-full, sum-signed}
+use Rattle.parallel_halves.proofs.Sides.{high_small, sum-unsigned, sum-turned, sum-full, sum-signed}
 use Rattle.parallel_halves.proofs.hadd.Goals as goal
 
 pub overflow_add-result : goal.overflow_add-result
@@ -11,11 +11,6 @@ overflow_add-result c =
 
 pub turned-requires : goal.turned-requires
 turned-requires c = let a = c.args in high_small a.w a.s c.high_half-in-Signed.ensures
-
-pub turned-requires-in-Signed : goal.turned-requires-in-Signed
-turned-requires-in-Signed c =
-    let a = c.args in
-    low_small a.w a.t c.low_half-in-Signed.ensures
 
 pub overflow_add-turned : goal.overflow_add-turned
 overflow_add-turned c =

@@ -1,16 +1,11 @@
 -- `parallel_halves::high_half` meets its contract. A shift and a mask.
 use borrow.Author.Rules.{rules}
-use native.Mathlib.Omega.{arith}
 use Rattle.isa.specs.Widths.{bits}
 use Rattle.vectors.proofs.Sizes.{shares}
 use Rattle.parallel.proofs.Words.{own, shr_lanes}
 use Prim.Native.Nat.{◌/◌}
-use Rattle.element.proofs.Widths.{size, half-size}
 use Rattle.parallel_halves.proofs.Parts.{halved}
 use Rattle.parallel_halves.proofs.high_half.Goals as goal
-
-pub overflow_shr-result : goal.overflow_shr-result
-overflow_shr-result c = let a = c.args in omega (arith, c.part.ensures, (half-size a.w).part, size a.w)
 
 pub returns : goal.returns
 returns c =

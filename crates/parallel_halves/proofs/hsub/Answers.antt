@@ -14,11 +14,6 @@ apart-requires c =
 pub turned-requires : goal.turned-requires
 turned-requires c = let a = c.args in high_small a.w a.s c.high_half-in-Signed.ensures
 
-pub turned-requires-in-Signed : goal.turned-requires-in-Signed
-turned-requires-in-Signed c =
-    let a = c.args in
-    low_small a.w a.t c.low_half-in-Signed.ensures
-
 pub apart-requires-in-Signed : goal.apart-requires-in-Signed
 apart-requires-in-Signed c =
     let low = c in

@@ -11,19 +11,8 @@ use Rattle.vectors.specs.Register.{element}
 use Rattle.vectors.proofs.ElementLaws.{element-below, build-same}
 use Rattle.vectors.proofs.Wholes.{value_low, value-high}
 use Rattle.parallel.proofs.Words.{made}
-use Rattle.parallel_pack.proofs.Places.{doubles, one_on, half-below, halves-built, element-shift}
+use Rattle.parallel_pack.proofs.Places.{doubles, half-below, halves-built, element-shift}
 use Rattle.parallel_pack.proofs.every_second.Goals as goal
-
-pub overflow_mul-k : goal.overflow_mul-k
-overflow_mul-k c = omega (arith, one_on c.count.ensures c.requires.0 c.requires.1)
-
-pub overflow_shr-v : goal.overflow_shr-v
-overflow_shr-v c = let a = c in one_on c.count.ensures a.requires.0 a.requires.1
-
-pub overflow_shr-v-2 : goal.overflow_shr-v-2
-overflow_shr-v-2 c =
-    let counted = c in
-    one_on counted.count.ensures counted.requires.0 counted.requires.1
 
 pub overflow_add-result : goal.overflow_add-result
 overflow_add-result c =

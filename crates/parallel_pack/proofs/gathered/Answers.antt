@@ -1,9 +1,7 @@
 -- `parallel_pack::gathered` meets its contract. Runs of one element become runs of two and of four.
-use borrow.Author.Rules.{rules}
 use mathlib.Core.Path.{sym}
 use Prim.Native.Nat.{ℕ, ◌*◌, ◌^◌, ◌<◌}
-use native.Mathlib.Omega.{arith}
-use lib.Dec.{lit<, lit≤}
+use lib.Dec.{lit<}
 use Rattle.isa.specs.declared.Width.TheVariants.{H, W, D}
 use Rattle.vectors.specs.Register.{element}
 use Rattle.vectors.proofs.ElementLaws.{element-below}
@@ -44,12 +42,3 @@ returns-in-W c =
     let g : ℕ → ℕ = λ i. element 32 x (i * 2) in
     let y = rw e at top.evens-y.ensures in
     rw e (of-run 32 1 g (same-lanes (shares D) y (λ j l. sym (run-one 32 g j))))
-
-pub returns-in-D : goal.returns-in-D
-returns-in-D c = absurd (let h = rw c.in-D.is at c.requires in omega (arith, h))
-
-pub moved-requires-in-B : goal.moved-requires-in-B
-moved-requires-in-B c = (lit≤ tt, lit≤ tt, lit≤ tt)
-
-pub moved-requires-in-H : goal.moved-requires-in-H
-moved-requires-in-H c = (lit≤ tt, lit≤ tt, lit≤ tt)

@@ -1,5 +1,4 @@
 -- `parallel_pack::half_in_turns` meets its contract. The elements of half a word of both, in turns.
-use borrow.Author.Rules.{rules}
 use mathlib.Core.Path.{◌∙◌, ap₂}
 use mathlib.Core.Bool.{cond}
 use Prim.Native.Nat.{◌*◌, ◌/◌, ◌%◌, ◌^◌}
@@ -10,12 +9,6 @@ use Rattle.vectors.proofs.ElementLaws.{element-below}
 use Rattle.parallel.proofs.Words.{same-lanes}
 use Rattle.parallel_pack.proofs.Places.{doubles, half_at}
 use Rattle.parallel_pack.proofs.half_in_turns.Goals as goal
-
-pub scattered-requires : goal.scattered-requires
-scattered-requires c = (c.requires.0, omega arith)
-
-pub scattered-requires-2 : goal.scattered-requires-2
-scattered-requires-2 c = (c.requires.0, omega arith)
 
 pub interleaved-requires : goal.interleaved-requires
 interleaved-requires c =

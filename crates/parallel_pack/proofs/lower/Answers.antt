@@ -1,6 +1,4 @@
 -- `parallel_pack::lower` meets its contract. At each width the literal is the number built of the elements.
-use borrow.Author.Rules.{rules}
-use native.Mathlib.Omega.{arith}
 use mathlib.Core.Path.{refl}
 use lib.Dec.{lit<}
 use Rattle.vectors.proofs.Sizes.{shares}
@@ -20,6 +18,3 @@ returns-in-H c = rw c.in-H.is (made (shares W) _ refl (λ i l. lit< tt))
 pub returns-in-W : goal.returns-in-W
 unfolding build
 returns-in-W c = rw c.in-W.is (made (shares D) _ refl (λ i l. lit< tt))
-
-pub returns-in-D : goal.returns-in-D
-returns-in-D c = absurd (let h = rw c.in-D.is at c.requires in omega (arith, h))

@@ -2,15 +2,8 @@
 use borrow.Author.Rules.{rules}
 use native.Mathlib.Omega.{arith}
 use native.Mathlib.Nat.{mod-eq_of_lt}
-use Rattle.element.proofs.Widths.{size}
-use Rattle.parallel_pack.proofs.Places.{quarter-fits, up-lanes, moved-lanes}
+use Rattle.parallel_pack.proofs.Places.{up-lanes, moved-lanes}
 use Rattle.parallel_pack.proofs.moved.Goals as goal
-
-pub overflow_shr-result : goal.overflow_shr-result
-overflow_shr-result c = let a = c in omega (arith, a.requires, quarter-fits a.args.v, size a.args.v)
-
-pub overflow_shl-result : goal.overflow_shl-result
-overflow_shl-result c = let a = c in omega (arith, a.requires, quarter-fits a.args.v, size a.args.v)
 
 pub overflow_add-result : goal.overflow_add-result
 overflow_add-result c =

@@ -1,8 +1,5 @@
 -- `parallel_pack::scattered` meets its contract. One run becomes runs of two and of one element.
-use borrow.Author.Rules.{rules}
-use Prim.Native.Nat.{◌<◌}
-use native.Mathlib.Omega.{arith}
-use lib.Dec.{lit<, lit≤}
+use lib.Dec.{lit<}
 use Rattle.isa.specs.declared.Width.TheVariants.{B, H, W, D}
 use Rattle.vectors.specs.Register.{element}
 use Rattle.vectors.proofs.ElementLaws.{element-below}
@@ -41,12 +38,3 @@ returns-in-W c =
     let x = top.args.x in
     rw c.in-W.is
     (same-lanes (shares D) (half-run (doubles W (lit< tt)) x top.requires.1) (λ j l. run-one 32 (element 32 x) j))
-
-pub returns-in-D : goal.returns-in-D
-returns-in-D c = absurd (let h = rw c.in-D.is at c.requires.0 in omega (arith, h))
-
-pub moved-requires-in-B : goal.moved-requires-in-B
-moved-requires-in-B c = (lit≤ tt, lit≤ tt, lit≤ tt)
-
-pub moved-requires-in-H : goal.moved-requires-in-H
-moved-requires-in-H c = (lit≤ tt, lit≤ tt, lit≤ tt)

@@ -1,5 +1,4 @@
 -- `parallel_pack::second_in_turns` meets its contract. The even elements of both, in turns.
-use borrow.Author.Rules.{rules}
 use mathlib.Core.Path.{◌∙◌, ap₂}
 use mathlib.Core.Bool.{cond}
 use Prim.Native.Nat.{◌*◌, ◌/◌, ◌%◌, ◌^◌}
@@ -8,17 +7,8 @@ use lib.Dec.{eqb}
 use Rattle.isa.specs.Widths.{bits}
 use Rattle.vectors.proofs.ElementLaws.{element-below}
 use Rattle.parallel.proofs.Words.{same-lanes}
-use Rattle.parallel_pack.proofs.Places.{doubles, one_on, element-shift}
+use Rattle.parallel_pack.proofs.Places.{doubles, element-shift}
 use Rattle.parallel_pack.proofs.second_in_turns.Goals as goal
-
-pub overflow_mul-k : goal.overflow_mul-k
-overflow_mul-k c = omega (arith, one_on c.count.ensures c.requires.0 c.requires.1)
-
-pub overflow_shr-t : goal.overflow_shr-t
-overflow_shr-t c = one_on c.count.ensures c.requires.0 c.requires.1
-
-pub overflow_shr-s : goal.overflow_shr-s
-overflow_shr-s c = let a = c in one_on c.count.ensures a.requires.0 a.requires.1
 
 pub interleaved-requires : goal.interleaved-requires
 interleaved-requires c =

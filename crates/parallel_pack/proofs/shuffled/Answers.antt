@@ -1,20 +1,7 @@
 -- `parallel_pack::shuffled` meets its contract. The sum of four quarters of every element.
 use native.Mathlib.Omega.{arith}
-use lib.Dec.{lit<}
 use Rattle.parallel_pack.proofs.Quarters.{two_lanes, three-lanes, shuffled-lanes}
 use Rattle.parallel_pack.proofs.shuffled.Goals as goal
-
-pub quarter_at-a-requires : goal.quarter_at-a-requires
-quarter_at-a-requires c = (omega arith, lit< tt)
-
-pub quarter_at-b-requires : goal.quarter_at-b-requires
-quarter_at-b-requires c = (omega arith, lit< tt)
-
-pub quarter_at-c-requires : goal.quarter_at-c-requires
-quarter_at-c-requires c = (omega arith, lit< tt)
-
-pub quarter_at-d-requires : goal.quarter_at-d-requires
-quarter_at-d-requires c = (omega arith, lit< tt)
 
 pub overflow_add-result : goal.overflow_add-result
 overflow_add-result c = let a = c.args in let h = (two_lanes a.v a.x a.imm

@@ -1,5 +1,5 @@
 -- `vectors::in_turn` meets its contract. Each turn puts one more element below those that are made.
-use Rattle.std.proofs.Common.{◌≡◌, ◌+◌, ◌-◌, ◌*◌, ◌/◌, ◌^◌, ◌≤◌, ◌<◌, arith}
+use Rattle.std.proofs.Common.{◌-◌, ◌*◌, ◌/◌, ◌≤◌, arith}
 use native.Mathlib.Nat.{mul-le-mul_left}
 use lib.Pow.{pow_mono}
 use Rattle.isa.specs.Widths.{bits}
@@ -31,6 +31,6 @@ loop-i-preserved g c =
     rw c.joined-out.ensures (record {
       room = room-more n c.loop-i.out fits {m = all} {i = i} c.loop-i-test.true within c.loop-i.invariant.room;
       made =
-          elements-more n c.loop-i.out fits {m = all} {i = i} c.loop-i-test.true within (goal.F-post g c.args.f c.args.w)
-          c.f.ensures c.loop-i.invariant.made;
+          elements-more n c.loop-i.out fits {m = all} {i = i} c.loop-i-test.true within
+          (goal.F-post g c.args.f c.args.w) c.f.ensures c.loop-i.invariant.made;
     })

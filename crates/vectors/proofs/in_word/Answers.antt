@@ -1,19 +1,10 @@
 -- `vectors::in_word` meets its contract. A shift and a remainder.
-use borrow.Author.Rules.{rules}
 use mathlib.Core.Path.{◌≡◌, refl}
 use native.Mathlib.Omega.{arith}
-use Rattle.element.proofs.Widths.{size}
 use Rattle.isa.specs.Widths.{bits}
 use Rattle.vectors.proofs.ElementLaws.{element-below}
-use Rattle.vectors.proofs.Sizes.{shares, inside}
 use Rattle.vectors.specs.Register.{element}
 use Rattle.vectors.proofs.in_word.Goals as goal
-
-pub overflow_mul-count : goal.overflow_mul-count
-overflow_mul-count c = let start = c in rw c.count.ensures (omega (arith, inside (shares start.args.w) start.args.i start.requires))
-
-pub overflow_shr-x : goal.overflow_shr-x
-overflow_shr-x c = let start = c in rw c.count.ensures (omega (arith, inside (shares start.args.w) start.args.i start.requires, size start.args.w))
 
 pub returns : goal.returns
 unfolding element

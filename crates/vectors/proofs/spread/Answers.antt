@@ -1,15 +1,10 @@
 -- `vectors::spread` meets its contract. Both words are the same.
 use borrow.Author.Rules.{rules}
-use native.Mathlib.Nat.{mod-lt}
-use lib.Pow.{pow_pos}
 use Rattle.memory.proofs.Values.{is-register}
 use Rattle.vectors.specs.Register.{filled}
 use Rattle.vectors.proofs.Sizes.{shares}
 use Rattle.vectors.proofs.Wholes.{whole_words}
 use Rattle.vectors.proofs.spread.Goals as goal
-
-pub spread_word-word-requires : goal.spread_word-word-requires
-spread_word-word-requires c = rw c.low.ensures (mod-lt _ (pow_pos _))
 
 pub returns : goal.returns
 unfolding filled

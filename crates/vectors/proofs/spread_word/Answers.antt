@@ -1,17 +1,7 @@
 -- `vectors::spread_word` meets its contract. At each width the product with ones at the elements' places is the sum of the elements.
-use borrow.Author.Rules.{rules}
 use native.Mathlib.Omega.{arith}
 use Rattle.vectors.specs.Register.{build}
 use Rattle.vectors.proofs.spread_word.Goals as goal
-
-pub overflow_mul-result : goal.overflow_mul-result
-overflow_mul-result c = let fits = rw c.in-B.is at c.requires in omega arith
-
-pub overflow_mul-result-in-H : goal.overflow_mul-result-in-H
-overflow_mul-result-in-H c = let fits = rw c.in-H.is at c.requires in omega arith
-
-pub overflow_mul-result-in-W : goal.overflow_mul-result-in-W
-overflow_mul-result-in-W c = let fits = rw c.in-W.is at c.requires in omega arith
 
 pub returns-in-B : goal.returns-in-B
 unfolding build

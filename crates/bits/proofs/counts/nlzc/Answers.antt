@@ -2,14 +2,9 @@
 use Rattle.bits.proofs.Fields.{leading_narrow}
 use Rattle.element.proofs.Widths.{size}
 use Rattle.isa.specs.Widths.{bits}
-use borrow.Author.Rules.{rules}
 use lib.Count.{leading_le}
 use native.Mathlib.Omega.{arith}
 use Rattle.bits.proofs.counts.nlzc.Goals as goal
-
-pub overflow_add-result : goal.overflow_add-result
-overflow_add-result c = let start = c in let w = start.args.w in
-    omega (arith, size w, leading_le (bits w) start.args.s, leading_narrow (bits w) start.args.s start.requires (size w).few)
 
 pub overflow_sub-result : goal.overflow_sub-result
 overflow_sub-result c = let start = c in let w = start.args.w in
@@ -18,6 +13,3 @@ overflow_sub-result c = let start = c in let w = start.args.w in
 pub returns : goal.returns
 returns c = let start = c in let w = start.args.w in
     omega (arith, size w, leading_le (bits w) start.args.s, leading_narrow (bits w) start.args.s start.requires (size w).few)
-
-pub overflow_cast-result : goal.overflow_cast-result
-overflow_cast-result c = omega (arith, leading_le 64 c.args.s)

@@ -1,6 +1,5 @@
 -- `linear::wrapping::add_a` meets its contract. The sum of two absolute values, wrapped.
 use Rattle.linear.specs.Sums.{add_a, addv}
-use Rattle.std.proofs.Common.{rules}
 use Rattle.linear.proofs.wrapping.add_a.Goals as goal
 
 pub returns : goal.returns

@@ -13,4 +13,5 @@ pub returns-in-W : goal.returns-in-W
 returns-in-W c = rw c.in-W.is (added 32 _ _ c.word.ensures c.word-in-W.ensures)
 
 pub returns-in-D : goal.returns-in-D
-returns-in-D c = rw c.in-D.is (added 64 _ _ (sym (mod-eq_of_lt (search rules))) (sym (mod-eq_of_lt (search rules))))
+returns-in-D c = rw c.in-D.is
+    (added 64 _ _ (sym (mod-eq_of_lt (search rules))) (sym (mod-eq_of_lt (search rules))))

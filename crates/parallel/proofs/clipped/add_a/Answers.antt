@@ -4,14 +4,8 @@ use Rattle.linear.specs.Sums.{add_a}
 use Rattle.parallel.proofs.Whole.{one_lane}
 use Rattle.parallel.proofs.clipped.add_a.Goals as goal
 
-pub add_a-requires : goal.add_a-requires
-add_a-requires c = rw c.in-D.is (record { first = search rules; second = search rules })
-
 pub returns-in-D : goal.returns-in-D
 returns-in-D c =
     let told = c in
     let e = rw told.in-D.is at c.add_a.ensures in
     rw told.in-D.is (one_lane (add_a 64) (search rules) (search rules) (search rules) e)
-
-pub returns-in_default : goal.returns-in_default
-returns-in_default c = c.sum_a.ensures

@@ -1,5 +1,4 @@
 -- `parallel::clipped::adds_a` meets its contract. Each step is held.
-use borrow.Author.Rules.{rules}
 use mathlib.Core.Path.{ap₂}
 use Prim.Native.Nat.{ℕ, ◌+◌, ◌-◌, ◌≤◌, min}
 use native.Mathlib.Omega.{arith}

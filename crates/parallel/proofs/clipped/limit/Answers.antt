@@ -1,5 +1,4 @@
 -- `parallel::clipped::limit` meets its contract. A bit over the largest signed number.
-use borrow.Author.Rules.{rules}
 use Prim.Native.Nat.{ℕ, ◌+◌, ◌-◌, ◌/◌}
 use native.Mathlib.Omega.{arith}
 use Rattle.isa.specs.declared.Width.{Width}

@@ -1,24 +1,7 @@
 -- `parallel::clipped::max_a` meets its contract. The test of the absolute values picks.
-use borrow.Author.Rules.{rules}
 use Rattle.linear.specs.Order.{larger}
 use Rattle.parallel.proofs.Tested.{order-of, picked-by}
 use Rattle.parallel.proofs.clipped.max_a.Goals as goal
-
-pub magnitude-requires : goal.magnitude-requires
-unfolding larger
-magnitude-requires c = search rules
-
-pub magnitude-requires-2 : goal.magnitude-requires-2
-unfolding larger
-magnitude-requires-2 c = search rules
-
-pub compared-requires : goal.compared-requires
-unfolding larger
-compared-requires c = search rules
-
-pub picked-requires : goal.picked-requires
-unfolding larger
-picked-requires c = search rules
 
 pub returns : goal.returns
 unfolding larger

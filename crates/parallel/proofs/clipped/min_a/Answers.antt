@@ -1,24 +1,7 @@
 -- `parallel::clipped::min_a` meets its contract. The test of the absolute values picks.
-use borrow.Author.Rules.{rules}
 use Rattle.linear.specs.Order.{smaller}
 use Rattle.parallel.proofs.Tested.{order-of, picked-by}
 use Rattle.parallel.proofs.clipped.min_a.Goals as goal
-
-pub magnitude-requires : goal.magnitude-requires
-unfolding smaller
-magnitude-requires c = search rules
-
-pub magnitude-requires-2 : goal.magnitude-requires-2
-unfolding smaller
-magnitude-requires-2 c = search rules
-
-pub compared-requires : goal.compared-requires
-unfolding smaller
-compared-requires c = search rules
-
-pub picked-requires : goal.picked-requires
-unfolding smaller
-picked-requires c = search rules
 
 pub returns : goal.returns
 unfolding smaller

@@ -1,5 +1,4 @@
 -- `parallel::clipped::sum_a` meets its contract. ADDV of the absolute values.
-use borrow.Author.Rules.{rules}
 use Rattle.isa.specs.Widths.{bits}
 use Rattle.vectors.proofs.Sizes.{shares}
 use Rattle.parallel.proofs.Words.{same-lanes}

@@ -1,5 +1,4 @@
 -- `parallel::compares::larger` meets its contract. The test picks.
-use borrow.Author.Rules.{rules}
 use Rattle.linear.specs.Order.{larger}
 use Rattle.parallel.proofs.Tested.{picked-by}
 use Rattle.parallel.proofs.compares.larger.Goals as goal

@@ -1,5 +1,4 @@
 -- `parallel::compares::less` meets its contract. The mask of no, the other way round.
-use borrow.Author.Rules.{rules}
 use Rattle.isa.specs.Widths.{bits}
 use Rattle.vectors.proofs.Sizes.{shares}
 use Rattle.parallel.proofs.Words.{same-lanes}

@@ -1,5 +1,4 @@
 -- `parallel::compares::not_more` meets its contract. Not more is not below.
-use borrow.Author.Rules.{rules}
 use Rattle.isa.specs.Widths.{bits}
 use Rattle.vectors.proofs.Sizes.{shares}
 use Rattle.parallel.proofs.Words.{same-lanes}

@@ -1,5 +1,4 @@
 -- `parallel::compares::smaller` meets its contract. The test picks.
-use borrow.Author.Rules.{rules}
 use Rattle.linear.specs.Order.{smaller}
 use Rattle.parallel.proofs.Tested.{picked-by}
 use Rattle.parallel.proofs.compares.smaller.Goals as goal

@@ -1,5 +1,4 @@
 -- `parallel::means::average` meets its contract. The average of the views.
-use borrow.Author.Rules.{rules}
 use lib.Dec.{lit<}
 use Rattle.parallel.proofs.Halves.{average-lanes}
 use Rattle.parallel.proofs.means.average.Goals as goal

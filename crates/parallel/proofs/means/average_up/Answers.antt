@@ -1,5 +1,4 @@
 -- `parallel::means::average_up` meets its contract. The average of the views.
-use borrow.Author.Rules.{rules}
 use lib.Dec.{lit<}
 use Rattle.parallel.proofs.Halves.{average-lanes}
 use Rattle.parallel.proofs.means.average_up.Goals as goal

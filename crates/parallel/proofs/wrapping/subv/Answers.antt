@@ -8,6 +8,3 @@ pub returns-in-D : goal.returns-in-D
 returns-in-D c = let told = c in
     let e = rw told.in-D.is at c.subv.ensures in
     rw told.in-D.is (one_lane (subv 64) (search rules) (search rules) (search rules) e)
-
-pub returns-in_default : goal.returns-in_default
-returns-in_default c = c.difference.ensures

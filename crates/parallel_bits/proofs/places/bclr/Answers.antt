@@ -18,6 +18,3 @@ returns c =
     same-lanes share (minus-lanes share s (and-lanes share s c.powers.ensures)
     (λ i l. and_le_l (element n a.s i) (2 ^ (element n a.t i % n))))
     (λ i l. clear-lane (element n a.s i) (element n a.t i % n))
-
-pub overflow_sub-result : goal.overflow_sub-result
-overflow_sub-result c = and_le_l _ _

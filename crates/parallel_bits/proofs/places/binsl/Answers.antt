@@ -1,5 +1,4 @@
 -- `parallel_bits::places::binsl` meets its contract. The n - 1 - k low bits of d stay.
-use borrow.Author.Rules.{rules}
 use mathlib.Core.Path.{ap, ◌∙◌}
 use Prim.Native.Nat.{◌+◌, ◌-◌, ◌%◌, ◌^◌}
 use lib.Bits.{bit_and}

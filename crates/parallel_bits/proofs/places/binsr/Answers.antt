@@ -1,5 +1,4 @@
 -- `parallel_bits::places::binsr` meets its contract. The low k + 1 bits are those of s.
-use borrow.Author.Rules.{rules}
 use mathlib.Core.Path.{ap, ◌∙◌}
 use Prim.Native.Nat.{◌+◌, ◌-◌, ◌%◌}
 use lib.Bits.{bit_and}

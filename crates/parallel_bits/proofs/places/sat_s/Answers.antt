@@ -1,5 +1,4 @@
 -- `parallel_bits::places::sat_s` meets its contract. Between the ends of the range, in views (Masks).
-use borrow.Author.Rules.{rules}
 use native.Mathlib.Omega.{arith}
 use mathlib.Core.Path.{sym, ap, ap₂, ◌∙◌}
 use Prim.Native.Nat.{◌%◌, min, max}

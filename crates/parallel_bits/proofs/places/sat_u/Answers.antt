@@ -1,5 +1,4 @@
 -- `parallel_bits::places::sat_u` meets its contract. The smaller of each element and the largest.
-use borrow.Author.Rules.{rules}
 use native.Mathlib.Omega.{arith}
 use mathlib.Core.Path.{sym, ap, ◌∙◌}
 use Prim.Native.Nat.{◌%◌, min}

@@ -1,5 +1,4 @@
 -- `parallel_bits::places::up_to` meets its contract. Twice a power less 1, within the element (Masks).
-use borrow.Author.Rules.{rules}
 use native.Mathlib.Omega.{arith}
 use Rattle.parallel_bits.proofs.Masks.{below-fits, up-to-lanes}
 use Rattle.parallel_bits.proofs.places.up_to.Goals as goal

@@ -1,8 +1,6 @@
 -- `parallel_bits::shifting::last_of` meets its contract. Bit k of twice the element.
-use borrow.Author.Rules.{rules}
 use native.Mathlib.Omega.{arith}
 use Rattle.isa.specs.Widths.{bits}
-use Rattle.element.proofs.Widths.{size}
 use Rattle.vectors.specs.Register.{element}
 use Rattle.vectors.proofs.Sizes.{shares}
 use Rattle.parallel.proofs.Words.{same-lanes, field-lanes}
@@ -19,9 +17,3 @@ returns c =
     let share = shares a.w in
     same-lanes share (field-lanes share twice.sll.ensures 1 a.k (omega arith) c.units.ensures)
     (λ i l. last-lane n (element n a.s i) a.k (omega (arith, wide a.w)) small)
-
-pub sll-requires : goal.sll-requires
-sll-requires c = omega (arith, wide c.args.w)
-
-pub overflow_shr-result : goal.overflow_shr-result
-overflow_shr-result c = omega (arith, (size c.args.w).few)

@@ -1,5 +1,4 @@
 -- `parallel_bits::shifting::last_out` meets its contract. Bit k of twice the element.
-use borrow.Author.Rules.{rules}
 use native.Mathlib.Omega.{arith}
 use mathlib.Core.Path.{ap, ◌∙◌}
 use Prim.Native.Nat.{◌/◌, ◌%◌, ◌^◌}
@@ -22,6 +21,3 @@ returns c =
     ∙ and_mask (sll n (element n a.s i) 1 / 2 ^ (element n a.t i % n)) 1
     ∙ last-lane n (element n a.s i) (element n a.t i % n) (omega (arith, wide a.w))
     (amount-below a.w (element n a.t i)))
-
-pub sll-requires : goal.sll-requires
-sll-requires c = omega (arith, wide c.args.w)

@@ -1,5 +1,4 @@
 -- `parallel_bits::shifting::rounded_by` meets its contract. The floor and the last bit out, in views (Floors).
-use borrow.Author.Rules.{rules}
 use native.Mathlib.Omega.{arith}
 use Rattle.parallel_bits.proofs.Floors.{rounded-lanes, rounded-all}
 use Rattle.parallel_bits.proofs.shifting.rounded_by.Goals as goal

@@ -1,5 +1,4 @@
 -- `parallel_bits::shifting::rounded_each` meets its contract. The floor and the last bit out, in views (Floors).
-use borrow.Author.Rules.{rules}
 use native.Mathlib.Omega.{arith}
 use Prim.Native.Nat.{◌%◌}
 use Rattle.isa.specs.Widths.{bits}

@@ -37,6 +37,3 @@ returns c =
     same-lanes share (or-lanes share (and-lanes share set mask) (and-lanes share clear other))
     (λ i l. picked-lane n (size a.w) (eqb (bit_at (element n a.t i) a.j) 0)
     (fits share set i l) (fits share clear i l))
-
-pub overflow_shr-m : goal.overflow_shr-m
-overflow_shr-m c = omega (arith, c.requires, size c.args.w)

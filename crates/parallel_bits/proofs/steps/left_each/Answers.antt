@@ -12,4 +12,5 @@ returns-in-B c =
     (c.mod_8.ensures (sll (bits c.args.w)) (to-left c.args.w) (λ x k r l p. search rules)) c.in-B.is
 
 pub returns-in_default : goal.returns-in_default
-returns-in_default c = record { below = search rules; at = λ i l. let e = c.built.ensures i l in grind (arith, sll-cut) }
+returns-in_default c =
+    record { below = search rules; at = λ i l. let e = c.built.ensures i l in grind (arith, sll-cut) }

@@ -1,14 +1,11 @@
 -- `products::division::quotient` meets its contract. By sign and absolute value.
-use Rattle.std.proofs.Common.{◌≡◌, not, ap, ◌∙◌, lt_of_le_of_lt, div-le_self, arith}
+use Rattle.std.proofs.Common.{◌≡◌, not, ap, ◌∙◌, arith}
 use lib.Signed.{non_neg}
 use Rattle.element.specs.Value.{value}
 use Rattle.element.proofs.Widths.{size}
 use Rattle.isa.specs.Widths.{bits}
 use Rattle.products.proofs.Quotient.{amount-some, not-not, quotient-form, quotient-zero}
 use Rattle.products.proofs.division.quotient.Goals as goal
-
-pub by_sign-requires : goal.by_sign-requires
-by_sign-requires c = let z = size c.args.w in omega (arith, z.some, z.twice)
 
 pub returns-then-t-eq0 : goal.returns-then-t-eq0
 returns-then-t-eq0 c =
@@ -22,9 +19,6 @@ returns-then-t-eq0 c =
 pub nonzero_div-amount : goal.nonzero_div-amount
 nonzero_div-amount c = let start = c in let w = start.args.w in
     omega (arith, amount-some (bits w) (size w) start.args.g start.requires.second c.if-t-eq0.false)
-
-pub by_sign-requires-2 : goal.by_sign-requires-2
-by_sign-requires-2 c = lt_of_le_of_lt (div-le_self _ _) c.amount.ensures.below
 
 pub returns : goal.returns
 returns c = cc (quotient-form _ _ _ _ c.if-t-eq0.false)

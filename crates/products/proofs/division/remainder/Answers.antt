@@ -1,19 +1,15 @@
 -- `products::division::remainder` meets its contract. By sign and absolute value.
-use Rattle.std.proofs.Common.{◌≡◌, not, sym, lt_of_le_of_lt, arith}
+use Rattle.std.proofs.Common.{◌≡◌, not, sym, arith}
 use lib.Signed.{non_neg}
 use Rattle.element.specs.Value.{value}
 use Rattle.element.proofs.Widths.{size}
 use Rattle.isa.specs.Widths.{bits}
 use Rattle.products.proofs.Quotient.{amount-some, remainder-form, remainder-zero}
-use native.Mathlib.Nat.{mod-le}
 use Rattle.products.proofs.division.remainder.Goals as goal
 
 pub nonzero_rem-amount : goal.nonzero_rem-amount
 nonzero_rem-amount c = let start = c in let w = start.args.w in
     omega (arith, amount-some (bits w) (size w) start.args.g start.requires.second c.if-t-eq0.false)
-
-pub by_sign-requires : goal.by_sign-requires
-by_sign-requires c = lt_of_le_of_lt (mod-le _ _) c.amount.ensures.below
 
 pub returns : goal.returns
 returns c =
