@@ -6,7 +6,7 @@ use Rattle.std.proofs.Common.{rules}
 use Rattle.entries.proofs.immediates.times.Goals as goal
 
 pub overflow_mul-result : goal.overflow_mul-result
-overflow_mul-result c = below-square 32 c.signed.ensures.1 (search rules)
+overflow_mul-result c = record { fits = below-square 32 c.signed.ensures.1 (search rules) }
 
 pub returns : goal.returns
 unfolding mulv

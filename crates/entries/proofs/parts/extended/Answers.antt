@@ -8,4 +8,4 @@ overflow_add-result c = omega (arith, c.imm_of-x.ensures.1)
 
 pub returns : goal.returns
 returns c =
-    rw (← c.imm_of-x.ensures.0) (carried c.imm_of-x.result _ c.imm_of-x.ensures.1 (search rules) refl)
+    rw (← c.imm_of-x.ensures.0) (carried c.imm_of-x.result _ c.imm_of-x.ensures.1 (search rules) (omega arith))

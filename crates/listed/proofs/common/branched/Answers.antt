@@ -14,8 +14,8 @@ returns-in-Err c n v g w =
 pub returns : goal.returns
 returns c n v g w =
     let a = c.args in
-    let to : c.wrapping_add-to.result ≡ (a.c.pc + 4 + extended_of a.e) % 2 ^ 64 =
-    c.wrapping_add-to.ensures ∙ rw (c.wrapping_add.ensures, c.extended.ensures) (mod-add-mod _ _ _) in
+    let to : ((a.c.pc + 4) % 2 ^ 64 + c.extended.result) % 2 ^ 64 ≡ (a.c.pc + 4 + extended_of a.e) % 2 ^ 64 =
+    rw c.extended.ensures (mod-add-mod _ _ _) in
     let mark = c.mark_of.ensures in
     rw (← c.branch_early.ensures, c.in_default.is, ← to)
     (record {
