@@ -21,11 +21,7 @@ pub fn kept_as(e: u64) -> Result<u64, Unread>
     ensures { result ≡ kept_as e }
 {
     let c = code_of(e);
-    if c < 109 {
-        Ok(c)
-    } else {
-        Err(unread_at(c))
-    }
+    if c < 109 { Ok(c) } else { Err(unread_at(c)) }
 }
 
 // 12, 13 or 14 of a word that reads as no instruction.

@@ -2,7 +2,6 @@
 // have an index past all words: one test tells all three.
 ghost use Rattle.listed.specs.Turn.{Placed};
 
-
 pub fn place(base: u64, pc: u64) -> u64
     ensures { Placed base pc result }
 {

@@ -71,7 +71,6 @@ loop-count-preserved c =
     in
     rw from done
     in (
-
       stays a.board.work (plan_at e m x) m done.control ∙ l.invariant.0,
       λ p h. sofar-more p e a.budget l.count m (whole p) (l.invariant.1 p h)
           c.loop-count-test.true _ _ _ _ (step p h)
