@@ -24,6 +24,7 @@ use Rattle.demands.specs.Budget as answer
 use Rattle.demands.specs.Demand1.{Steps, none, more}
 use Rattle.demands.specs.Forward.{words, AtLeastOne, Forward}
 use Rattle.demands.specs.Limits.{Program}
+use Rattle.std.specs.declared.option.Option.TheVariants as option
 use Rattle.demands.specs.Tables.{Not, Some, little}
 use Rattle.demands.proofs.Demand2.{finished-step, formed}
 use Rattle.demands.proofs.Forward.{short-run, forward-steps}
@@ -122,7 +123,7 @@ budget-is p base counter =
 
     go : (a : Bool) → Reflects a (Program base (length p)) → (b : Bool) → Reflects b (Some (AtWord p base counter))
         → Budget p base counter
-        (cond a 0 (enough (cond b (Some (number (part p (counter - base) 4))) None) p ((counter - base) / 4)))
+        (cond a 0 (enough (cond b (option.Some (number (part p (counter - base) 4))) None) p ((counter - base) / 4)))
     go true x b y = refused (x.yes refl)
     go false x true y = by-branches (x.no refl) (y.yes refl) (forward_to p (words p)) (forward-reflects p)
     go false x false y = nowhere (x.no refl) (y.no refl)

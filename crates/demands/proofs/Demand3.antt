@@ -32,6 +32,7 @@ use Rattle.plan.specs.Plan.{plan_of, executed, early, unless, kind_of, accessed,
 use Rattle.plan.proofs.PlanLaws.{control-cases}
 use Rattle.reading.specs.Reading.{read_of}
 use Rattle.state.specs.declared.control.Control.{Control}
+use Rattle.isa.specs.declared.Unread as unread
 use Rattle.state.specs.declared.stops.Stop.TheVariants.{NoWord, Unread, NoWindow}
 use Rattle.state.specs.Csr.{masked, arms, arming}
 use Rattle.state.specs.Fetch.{fetched}
@@ -261,7 +262,7 @@ module _ (order : Order) (table : List ℕ) (pb tb b₁ b₂ : ℕ) (v g : List 
   concluded-together q₁ q₂ (same h i) =
       subst (λ q. Together (concluded b₁ q₁ m₁) (concluded b₂ q m₂)) (sym h) (along _ _ _ _ _ _ refl refl (after q₁ i))
 
-  decided-together : (r : Result Instr Unread) → Together (decided r e₁ m₁) (decided r e₂ m₂)
+  decided-together : (r : Result Instr unread.Unread) → Together (decided r e₁ m₁) (decided r e₂ m₂)
   decided-together (Err u) = along (Err (Unread u)) v g c w₁ w₂ refl refl idle
   decided-together (Ok i) = concluded-together (plan_of e₁ m₁ i) (plan_of e₂ m₂ i) (planned-alike i)
 

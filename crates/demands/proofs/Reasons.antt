@@ -46,6 +46,7 @@ use Rattle.demands.specs.AtCounter.{IsBranch, format, whole, IgnoresSwitch, scal
 use Rattle.demands.specs.AtCounter.{address_from, first_address, Accesses, at, SetsCsr, to, InTable, InWork, Arms}
 use Rattle.demands.specs.AtCounter.{AtWord, StandsAt, ReadsAs, IsWord, Does}
 use Rattle.demands.specs.Reasons.{read_stops, stops, FirstReason}
+use Rattle.std.specs.declared.option.Option.TheVariants as option
 use Rattle.demands.specs.Tables.{Row, row, First, none, given, passed, Not, Some, little}
 use Rattle.demands.proofs.Addresses.{address-from, all-inside}
 use Rattle.demands.proofs.CsrBits.{arms-reflects}
@@ -179,7 +180,7 @@ module _ (e : Env) (m : Machine) (sized : Sized e m) where
         → First (risks access)
         (outcome_number
         (outcome_of (loaded
-        (or_else z (cond t (Some (a - e.board.table)) None) (cond w (Some (a - e.board.work)) None))
+        (or_else z (cond t (option.Some (a - e.board.table)) None) (cond w (option.Some (a - e.board.work)) None))
         e.board.order df wd e.table m.work)))
     load-first p z true w x y = load-passes p (λ h. h.0 (x.yes refl))
     load-first p z false true x y = load-passes p (λ h. h.1 (y.yes refl))
@@ -189,7 +190,7 @@ module _ (e : Env) (m : Machine) (sized : Sized e m) where
         → First (risks access)
         (outcome_number
         (outcome_of (stored
-        (or_else z (cond t (Some (a - e.board.table)) None) (cond w (Some (a - e.board.work)) None))
+        (or_else z (cond t (option.Some (a - e.board.table)) None) (cond w (option.Some (a - e.board.work)) None))
         e.board.order df a v)))
     store-first p v z true w x y =
         passed (λ h. (accessing None? h).0 (x.yes refl)) (given (accesses ReadOnly? (p, x.yes refl)))
@@ -330,27 +331,27 @@ module _ (p : List ℕ) (e : Env) (m : Machine) where
   unfolding fetched
   word-is s = go stands? stands
     where
-      go : (b : Bool) → Reflects b (Some (StandsAt p e m)) → IsWord p e m (word_here (cond b (Some w) None))
+      go : (b : Bool) → Reflects b (Some (StandsAt p e m)) → IsWord p e m (word_here (cond b (option.Some w) None))
       go true x = record { number = s.number; holds = (s.holds, sym (spelt s)) }
       go false x = absurd (x.no refl s)
 
   -- a word is fetched exactly where it stands
-  pub word-fetched : {v : ℕ} → IsWord p e m v → fetched p e.board.program m.ctl.pc ≡ Some v
+  pub word-fetched : {v : ℕ} → IsWord p e m v → fetched p e.board.program m.ctl.pc ≡ option.Some v
   unfolding fetched
   word-fetched {v} s = go stands? stands
     where
       at : Some (StandsAt p e m)
       at = record { number = s.number; holds = s.holds.0 }
 
-      go : (b : Bool) → Reflects b (Some (StandsAt p e m)) → cond b (Some w) None ≡ Some v
-      go true x = ap Some (sym (s.holds.1 ∙ spelt at))
+      go : (b : Bool) → Reflects b (Some (StandsAt p e m)) → cond b (option.Some w) None ≡ option.Some v
+      go true x = ap option.Some (sym (s.holds.1 ∙ spelt at))
       go false x = absurd (x.no refl at)
 
-  pub fetched-word : {v : ℕ} → fetched p e.board.program m.ctl.pc ≡ Some v → IsWord p e m v
+  pub fetched-word : {v : ℕ} → fetched p e.board.program m.ctl.pc ≡ option.Some v → IsWord p e m v
   unfolding fetched
   fetched-word {v} = go stands? stands
     where
-      go : (b : Bool) → Reflects b (Some (StandsAt p e m)) → cond b (Some w) None ≡ Some v → IsWord p e m v
+      go : (b : Bool) → Reflects b (Some (StandsAt p e m)) → cond b (option.Some w) None ≡ option.Some v → IsWord p e m v
       go true x q =
           let s = x.yes refl in
           let is : v ≡ w = cc in
@@ -364,7 +365,7 @@ module _ (p : List ℕ) (e : Env) (m : Machine) where
   step-concludes {i} here = go stands? stands
     where
       go : (b : Bool) → Reflects b (Some (StandsAt p e m))
-          → attempted (cond b (Some w) None) e m ≡ concluded e.board.work (plan_of e m i) m
+          → attempted (cond b (option.Some w) None) e m ≡ concluded e.board.work (plan_of e m i) m
       go true x = ap (λ r. decided r e m) (one-reading (reads (x.yes refl)) here)
       go false x = absurd (x.no refl (record { number = here.number; holds = here.holds.0 }))
 
@@ -402,7 +403,7 @@ module _ (p : List ℕ) (e : Env) (m : Machine) where
         (planned-first i))))
 
     counter-first : (b : Bool) → Reflects b (Some (StandsAt p e m))
-        → First (stops p e m) (outcome_number (attempted (cond b (Some w) None) e m).outcome)
+        → First (stops p e m) (outcome_number (attempted (cond b (option.Some w) None) e m).outcome)
     counter-first true x =
         passed (λ (n : Not (Some (StandsAt p e m))). n (x.yes refl)) (decided-first (read_of w) (reads (x.yes refl)))
     counter-first false x = given (x.no refl)

@@ -14,6 +14,7 @@ use Rattle.plan.specs.declared.Plan.{Plan}
 use Rattle.plan.specs.declared.Plan.TheVariants as plan
 use Rattle.plan.specs.Plan.{executed_by, writes, kind_of, early, unless}
 use Rattle.reading.specs.Reading.{read_of}
+use Rattle.isa.specs.declared.Unread as unread
 use Rattle.state.specs.declared.stops.Stop.TheVariants.{NoWord, Unread, NoWindow, ReadOnly}
 use Rattle.state.specs.declared.windows.Spot.{Spot}
 use Rattle.state.specs.declared.windows.Spot.TheVariants.{Table, Work, Outside}
@@ -42,7 +43,7 @@ abbrev pub plan_before : Env → Machine → Instr → Plan
 plan_before e m i =
     unless (early (kind_of i) m.ctl.mark m.ctl.on) (executed_by (accessed_before e m) m i)
 
-abbrev pub decided_before : Result Instr Unread → Env → Machine → Ending
+abbrev pub decided_before : Result Instr unread.Unread → Env → Machine → Ending
 decided_before (Err u) e m = stops (Unread u) m
 decided_before (Ok i) e m = concluded e.board.work (plan_before e m i) m
 

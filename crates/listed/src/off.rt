@@ -26,7 +26,8 @@ fn early_at(k: u64, mark: Mark) -> Result<(), Stop>
 {
     match k / 2 {
         1 => Ok(()),
-        2 | 3 => branch_early(mark, false),
+        2 => branch_early(mark, false),
+        3 => branch_early(mark, false),
         _ => Err(Stop::SwitchedOff),
     }
 }

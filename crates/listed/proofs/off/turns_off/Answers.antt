@@ -84,6 +84,8 @@ pub returns : goal.returns
 returns c p t v w h =
     let a = c.args in
     let l = c.loop-count in
-    sofar-spent p (env a.board t) a.budget l.count (machine v l.generals w l.control)
+    let all : l.count ≡ a.budget = omega (arith, l.auto.count-end, c.loop-count-test.false) in
+    let spent = sofar-spent p (env a.board t) a.budget l.count (machine v l.generals w l.control)
     (runs p (env a.board t) a.budget (machine v a.generals.now w a.c)) (l.invariant.1 p t v w h)
-    c.loop-count-test.false
+    c.loop-count-test.false in
+    rw all at spent

@@ -22,7 +22,7 @@ conclude-requires c =
     let a = c.args in
     let m = machine a.vectors.now a.generals.now a.work.now a.c in
     rw (c.moved-p.ensures a.work.now)
-    (search rules, search rules, move-there (env a.board []) m a.e)
+    (move-there (env a.board []) m a.e)
 
 pub returns : goal.returns
 returns c t =

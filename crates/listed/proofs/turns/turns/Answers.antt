@@ -1,6 +1,6 @@
 -- `listed::turns::turns`. The invariant is the plain engine's, of every
 -- program that the list has read: it meets its contract.
-use Rattle.std.proofs.Common.{ℕ, ◌<◌, List, get_or, refl, ◌∙◌, arith, rules}
+use Rattle.std.proofs.Common.{◌≡◌, ℕ, ◌<◌, List, get_or, refl, ◌∙◌, arith, rules}
 use Rattle.acts.specs.Act.{plan_at}
 use Rattle.listed.proofs.StepLaws.{step-none, step_from, stays}
 use Rattle.listed.specs.Turn.{Reads}
@@ -115,4 +115,6 @@ returns c p h =
     let e = env a.board a.table.now in
     let m = machine l.vectors l.generals l.work l.control in
     let whole = runs p e a.budget (machine a.vectors.now a.generals.now a.work.now a.c) in
-    sofar-spent p e a.budget l.count m whole (l.invariant.1 p h) c.loop-count-test.false
+    let all : l.count ≡ a.budget = omega (arith, l.auto.count-end, c.loop-count-test.false) in
+    let spent = sofar-spent p e a.budget l.count m whole (l.invariant.1 p h) c.loop-count-test.false in
+    rw all at spent
