@@ -31,13 +31,13 @@ module _ (s : Listing) (v g w b b' l : List ℕ) where
       record {
         ran = λ y. clash (sym (i.short ∙ y));
         short = λ y. record {
-            reason = refl;
-            count = refl;
-            missing = refl;
-            vec = i.ended.vec;
-            gen = i.ended.gen;
-            work = i.ended.work;
-            control = k;
-          };
+          reason = refl;
+          count = refl;
+          missing = refl;
+          vec = i.ended.vec;
+          gen = i.ended.gen;
+          work = i.ended.work;
+          control = k;
+        };
         list = i.list;
       }

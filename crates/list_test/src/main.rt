@@ -21,9 +21,7 @@ fn agrees(r: [u8; 73]) -> bool {
     let mut line = [0u8; 64];
     match write_line(&mut line, address, word) {
         None => false,
-        Some(n) => {
-            n == r[8] as usize && line.as_slice() == &r[9..] && refuses(address, word)
-        }
+        Some(n) => { n == r[8] as usize && line.as_slice() == &r[9..] && refuses(address, word) }
     }
 }
 

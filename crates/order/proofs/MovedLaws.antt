@@ -83,7 +83,7 @@ exchanges x n m some l small = record { below = within; at = byte }
 
     either : (t : Bool) (c b : ℕ)
         → bit_or (cond (not t) (element 8 x (n + b)) 0) (cond t (element 8 x c) 0)
-            ≡ element 8 x (cond (not t) (n + b) c)
+        ≡ element 8 x (cond (not t) (n + b) c)
     either true c b = or_zero_l (element 8 x c)
     either false c b = or_zero_r (element 8 x (n + b))
 

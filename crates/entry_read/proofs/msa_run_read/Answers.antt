@@ -1,14 +1,14 @@
 -- `entry_read::msa_run_read` meets its contract, by what the engine answers.
-use Rattle.entry_read.proofs.ReadLaws.{reads-to}
-use borrow.Author.Rules.{rules}
+use Rattle.std.proofs.Common.{refl}
+use Rattle.entry_read.proofs.ReadLaws.{ran-to, short-to}
 use Rattle.entry_read.proofs.msa_run_read.Goals as goal
+
+pub returns-in_default : goal.returns-in_default
+returns-in_default c =
+    rw (← c.control_of-c.ensures, ← c.board_of-board.ensures) (short-to _ _ _ _ _ _ _ c.in_default.ensures refl)
 
 pub returns : goal.returns
 returns c =
-    let settled = c in
-    let between = settled in
-    let ran = between in
-    let read = ran in
-    rw (← read.control_of-c.ensures, ← read.board_of-board.ensures)
-    (reads-to _ _ _ _ _ _ _ _ _ _ _ _ _ _ ran.run-x.ensures c.read_number.ensures
-    c.reason_missing.ensures settled.settle.ensures)
+    rw (← c.control_of-c.ensures, ← c.board_of-board.ensures)
+    (ran-to _ _ _ _ _ _ _ c.in-Some.end _ _ c.in-Some.ensures c.from.ensures c.reason_missing.ensures
+    c.settle.ensures)

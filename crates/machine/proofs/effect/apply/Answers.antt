@@ -30,4 +30,3 @@ returns-in-General c = rw c.in-General.is (record { vectors_after = refl; genera
 
 pub returns-in-Store : goal.returns-in-Store
 returns-in-Store c = rw c.in-Store.is (record { vectors_after = refl; generals_after = refl; work_after = c.put_sixteen.ensures })
-
