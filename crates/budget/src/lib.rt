@@ -56,7 +56,8 @@ fn from_word(program: &[u8], at: u64) -> u32
     }
 }
 
-// From the word at the counter; 1 where it is at no word; and 0 of a program that set-up refuses.
+// From the word at the counter; 1 where it is at no word; and 0, which C gets and no None, of a program that set-up
+// refuses, and where no budget is known.
 pub fn forward_budget(program: &[u8], base: u64, counter: u64) -> u32
     ensures { result ≡ budget_of program.now base counter }
 {

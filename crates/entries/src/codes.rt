@@ -1,5 +1,5 @@
 // The code of what a word asks for, a definition of specs/Entry.antt a function. An enum that holds others has a
-// function for each of them, so that no match has more than eight arms.
+// function for each of them, so that no match has more than eight arms. Codes are numbers: C lends the list as such.
 ghost use Rattle.std.specs.Prelude.{◌≡◌, ◌<◌};
 ghost use Rattle.isa.specs.declared.Arith.TheVariants as arith;
 ghost use Rattle.isa.specs.declared.BitOp.TheVariants as bit;

@@ -73,6 +73,7 @@ pub fn order_of(b: &[u8]) -> Order
     }
 }
 
+// The numbers that C writes and reads in the block; no From, since they are the block's alone.
 fn mark_number(k: Mark) -> u8
     ensures { result ≡ mark_number k }
 {

@@ -20,7 +20,8 @@ pub struct Greg(pub u8);
 #[derive(Clone, Copy, Debug, PartialEq, Eq)]
 pub struct Creg(pub u8);
 
-// An operation, by its place in the table of operations.
+// An operation, by its place in the table of operations. A number, and no enum: the definitions of crate ops speak of
+// places, and the table has a hundred and thirty.
 #[derive(Clone, Copy, Debug, PartialEq, Eq)]
 pub struct Op(pub u16);
 

@@ -1,4 +1,5 @@
-// The data formats as the two bits of Table 3.10, and H and W as the one bit of Table 3.11.
+// The data formats as the two bits of Table 3.10, and H and W as the one bit of Table 3.11. Functions, and no From: one
+// type has two codings.
 ghost use Rattle.std.specs.Prelude.{◌≡◌, ◌<◌};
 ghost use Rattle.isa.specs.Widths as format;
 

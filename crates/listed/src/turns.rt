@@ -14,6 +14,8 @@ use state::board::Board;
 use state::control::Control;
 use state::stops::Stop;
 
+// The loop stands here, in `off` and in the plain engine: one loop that is given the step as a closure would promise no
+// less, and its callers would state what each step leaves.
 // For a set-up that was accepted, and a list that begins with the entries of the program's words.
 pub fn turns(
     board: Board,

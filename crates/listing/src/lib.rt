@@ -60,15 +60,10 @@ fn put_shown(line: &mut [u8], at: usize, s: Shown) -> usize
     requires { Room line.old at (listing.shown_text s) }
     ensures { Puts line.old at (listing.shown_text s) line.new result }
 {
-    let form = s.form;
-    let a = s.a;
-    let b = s.b;
-    let c = s.c;
-    let d = s.d;
     let form_at = put_name(line, at, s.name as usize);
-    let blank_at = put_form(line, form_at, form);
+    let blank_at = put_form(line, form_at, s.form);
     let first_at = put_byte(line, blank_at, b' ');
-    put_operands(line, first_at, a, b, c, d)
+    put_operands(line, first_at, s.a, s.b, s.c, s.d)
 }
 
 fn read_number(r: Result<Instr, Unread>) -> u32

@@ -18,7 +18,7 @@ pub mod means;
 pub mod order;
 pub mod wrapping;
 
-// The top bit of every element.
+// The top bit of every element. Tables by the width, here and in parallel_halves: as a product it would be multiplied.
 pub fn tops(w: Width) -> u64
     ensures { Lanes (bits w) result (λ _. top (bits w)) }
 {

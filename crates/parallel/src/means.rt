@@ -1,4 +1,5 @@
-// Averages: the sum of the halves, and a carry of the lowest bits.
+// Averages: the sum of the halves, and a carry of the lowest bits. The two means differ in how the lowest bits meet,
+// which is the whole of each.
 ghost use Rattle.std.specs.Prelude.{◌+◌, ◌/◌};
 ghost use Rattle.isa.specs.Widths.{bits};
 ghost use Rattle.linear.specs.Sums as sums;

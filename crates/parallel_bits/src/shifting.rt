@@ -110,6 +110,7 @@ fn last_of(w: Width, s: u64, k: u64) -> u64
     (sll(w, s, 1) >> k) & units(w)
 }
 
+// `last_out` and `rounded_each` by one amount: the amount of each is what they ask for, so one of them would be less plain.
 fn rounded_by(w: Width, g: Reading, s: u64, k: u64) -> u64
     requires { k < bits w }
     ensures { Each1 (bits w) result (λ a. shifts.shift_rounded g (bits w) a k) s }

@@ -25,6 +25,7 @@ fn paired(n: u64, m: u64, x: u64) -> u64
     (x & m) + ((x >> n) & m)
 }
 
+// A function each for bytes, halfwords and words: the last is made of the one before it.
 fn pcnt_b(s: u64) -> u64
     ensures { Each1 8 result count.ones s }
 {

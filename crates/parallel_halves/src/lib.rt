@@ -79,6 +79,7 @@ fn short(w: Width) -> u64
     }
 }
 
+// The sum and the difference go by different turns of the halves, so neither is the other with a sign.
 pub fn hadd(w: Width, g: Reading, s: u64, t: u64) -> u64
     ensures { Each2 (bits w) result (halves.hadd g (bits w)) s t }
 {

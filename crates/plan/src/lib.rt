@@ -19,6 +19,7 @@ use memory::Register;
 use state::control::Mark;
 use state::stops::Stop;
 
+// Stop is one of seven, and no Err around the others: the definitions of specs/Plan have it so.
 #[derive(Clone, Copy)]
 pub enum Plan {
     Stop(Stop),

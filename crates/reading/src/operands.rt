@@ -1,4 +1,5 @@
-// The operands of a word, by the register file that they name and the place where they stand.
+// The operands of a word, by the register file that they name and the place where they stand. A name for each field of
+// the figures: each is one expression, which one function over the place would not make plainer.
 ghost use Rattle.std.specs.Prelude.{◌≡◌};
 ghost use Rattle.fields.specs.Fields.{bits};
 ghost use Rattle.reading.specs.Reading as reading;

@@ -1,4 +1,5 @@
-// The place of a word's operation in the table, Tables 3.16 and 3.18.
+// The place of a word's operation in the table, Tables 3.16 and 3.18. Of a word of no table it is 512, and no None: the
+// definition place_of has it so.
 ghost use Rattle.std.specs.Prelude.{◌≡◌, ◌<◌, cond, eqb, ltb};
 ghost use Rattle.fields.specs.Fields.{bits};
 ghost use Rattle.ops.specs.Places as place;

@@ -13,7 +13,7 @@ use crate::classes::{
 };
 use isa::{Creg, Greg, Instr, Vreg, Width};
 
-// A number with its sign.
+// A number with its sign, and no i16: the definition shows a sign and digits, and -32768 has its own digits.
 #[derive(Clone, Copy, Debug, PartialEq, Eq)]
 pub struct Number {
     pub minus: bool,

@@ -1,5 +1,6 @@
 // Pieces of text put into a lent line, each from a place on. Each answers the place behind it, so a line is a run of
 // these.
+// The line and the place go apart: the writer that holds both (crate line_writer) is made of this one.
 #![tactic(auto)]
 
 ghost use Rattle.std.specs.Prelude.{◌≡◌, [], ◌∷◌, ◌<◌, ◌≤◌, length, replicate};
