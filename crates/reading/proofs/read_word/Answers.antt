@@ -26,6 +26,7 @@ returns c =
       said =
           ap read_said
           (rw (
+            c.class_of.ensures,
             c.byte_at-byte.ensures,
             c.place_of-k.ensures,
             class-in k,

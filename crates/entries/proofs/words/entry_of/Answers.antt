@@ -18,6 +18,7 @@ unfolding read_of
 returns c =
     let k = place_of c.args.w in
     rw (
+      c.class_of.ensures,
       c.byte_at-byte.ensures,
       c.place_of-k.ensures,
       class-in k,

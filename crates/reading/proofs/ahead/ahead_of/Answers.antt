@@ -8,6 +8,7 @@ unfolding read_of
 returns c =
     let k = place_of c.args.w in
     rw (
+      c.class_of.ensures,
       c.byte_beside-byte.ensures,
       c.place-k.ensures.0,
       class-in k,
