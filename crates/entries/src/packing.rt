@@ -2,6 +2,7 @@
 ghost use Rattle.std.specs.Prelude.{◌≡◌};
 ghost use Rattle.entries.specs.Entry as entry;
 
+#[tactic(auto, unfolding(crate::specs::Entry::packed))]
 pub fn packed(code: u64, df: u64, flag: u64, d: u64, s: u64, t: u64, imm: u64) -> u64
     ensures { result ≡ entry.packed code df flag d s t imm }
 {

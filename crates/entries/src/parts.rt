@@ -6,6 +6,7 @@ use isa::Width;
 use isa::widths::width_at;
 use std::num::wrapping_sub_u64;
 
+#[tactic(auto, unfolding(crate::specs::Cut::code_of))]
 pub fn code_of(e: u64) -> u64
     ensures { (result ≡ code_of e) × (result < 256) }
 {
@@ -18,30 +19,35 @@ pub fn width_of(e: u64) -> Width
     width_at((e / 256 % 4) as u32)
 }
 
+#[tactic(auto, unfolding(crate::specs::Cut::flag_of))]
 pub fn flag_of(e: u64) -> bool
     ensures { result ≡ flag_of e }
 {
     e / 1024 % 2 == 1
 }
 
+#[tactic(auto, unfolding(crate::specs::Cut::dest_of))]
 pub fn dest_of(e: u64) -> u8
     ensures { (result ≡ dest_of e) × (result < 32) }
 {
     (e / 2048 % 32) as u8
 }
 
+#[tactic(auto, unfolding(crate::specs::Cut::source_of))]
 pub fn source_of(e: u64) -> u8
     ensures { (result ≡ source_of e) × (result < 32) }
 {
     (e / 65536 % 32) as u8
 }
 
+#[tactic(auto, unfolding(crate::specs::Cut::third_of))]
 pub fn third_of(e: u64) -> u8
     ensures { (result ≡ third_of e) × (result < 32) }
 {
     (e / 2097152 % 32) as u8
 }
 
+#[tactic(auto, unfolding(crate::specs::Cut::imm_of))]
 pub fn imm_of(e: u64) -> u64
     ensures { (result ≡ imm_of e) × (result < 4294967296) }
 {
