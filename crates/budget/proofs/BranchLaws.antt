@@ -18,7 +18,7 @@ use Rattle.ops.specs.Formats.{Formats, bhwd, has}
 use Rattle.ops.specs.Packed.{class_code}
 use Rattle.ops.specs.Table.{Row, table, row_at, class_at, formats_at}
 use Rattle.ops.proofs.Find.{rule}
-use Rattle.reading.specs.declared.index.Index.{Index}
+use Rattle.reading.specs.Index.{Index}
 use Rattle.reading.specs.Index.{bit_index, element_index}
 use Rattle.reading.specs.Reading.{branch, place_of, df, hw, read_class, read_of}
 use Rattle.words.proofs.Blocks.{cond-elim, inside, found, stood, to-branch}

@@ -1,6 +1,6 @@
 -- `writing::packed` meets its contract. The loop's invariant: the fields from place i on are put together, and all of them fit.
 use Prim.Native.Nat.{ℕ, ◌+◌, ◌-◌, ◌*◌, ◌^◌, ◌≤◌, ◌<◌}
-use mathlib.Core.Path.{◌≡◌}
+use mathlib.Core.Path.{◌≡◌, refl}
 use mathlib.Core.Bool.{false}
 use mathlib.Core.List.{List, []}
 use native.Mathlib.Omega.{arith}
@@ -54,7 +54,7 @@ module _ {ns vs : List ℕ} {i word scale : ℕ} (s : Shaped ns vs) (d : Done ns
           }
 
 -- at the end of a turn
-turn_small : (c : goal.Else-size-value) → c.loop-i.word + c.value * c.loop-i.scale < 4294967296
+turn_small : (c : goal.Else-size-value) → c.loop-i.word + get_or c.args.values.now (c.loop-i.i - 1) 0 * c.loop-i.scale < 4294967296
 turn_small c = word_small c.requires c.loop-i.invariant c.loop-i-test.true c.power-size.ensures refl c.if-size-value.false
 
 -- at the end of the loop

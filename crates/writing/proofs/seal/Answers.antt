@@ -1,5 +1,5 @@
 -- `writing::seal` meets its contract.
 use Rattle.writing.proofs.seal.Goals as goal
 
-pub returns-then-ok : goal.returns-then-ok
-returns-then-ok c = rw c.if-ok.true c.packed.ensures
+pub returns-then-l : goal.returns-then-l
+returns-then-l c = rw c.if-l.true c.packed.ensures
