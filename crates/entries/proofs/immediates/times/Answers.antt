@@ -1,8 +1,6 @@
 -- `entries::immediates::times` meets its contract.
 use Rattle.products.specs.Products.{mulv}
-use Rattle.products.proofs.Halves.{below-square}
 use Rattle.products.proofs.Ring.{like-pos, like-wrap, wrap-mul}
-use Rattle.std.proofs.Common.{rules}
 use Rattle.entries.proofs.immediates.times.Goals as goal
 
 pub returns : goal.returns
