@@ -10,8 +10,8 @@ use Rattle.isa.specs.declared.Width.TheVariants.{B, H, W, D}
 use Rattle.isa.specs.Widths.{width_code}
 use Rattle.fields.specs.Fields.{both}
 use Rattle.fields.proofs.Fields.{both_left, both_right}
-use Rattle.ops.specs.Classes.{Class}
-use Rattle.ops.specs.Classes as class
+use Rattle.ops.specs.declared.Class.{Class}
+use Rattle.ops.specs.declared.Class.TheVariants as class
 use Rattle.ops.specs.Formats.{has}
 use Rattle.ops.specs.Packed.{class_code}
 use Rattle.ops.specs.Table.{Row, table, row_at, class_at, has_form}

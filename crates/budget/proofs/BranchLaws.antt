@@ -12,8 +12,8 @@ use Rattle.isa.specs.declared.Instr.{Instr}
 use Rattle.isa.specs.Widths.{width_at}
 use Rattle.element.proofs.Diff.{by_order}
 use Rattle.fields.specs.Fields.{bits, both}
-use Rattle.ops.specs.Classes.{Class}
-use Rattle.ops.specs.Classes as class
+use Rattle.ops.specs.declared.Class.{Class}
+use Rattle.ops.specs.declared.Class.TheVariants as class
 use Rattle.ops.specs.Formats.{Formats, bhwd, has}
 use Rattle.ops.specs.Packed.{class_code}
 use Rattle.ops.specs.Table.{Row, table, row_at, class_at, formats_at}

@@ -9,8 +9,8 @@ use Rattle.isa.specs.declared.Three.{Three}
 use Rattle.isa.specs.declared.Three.TheVariants as three
 use Rattle.isa.specs.declared.Width.{Width}
 use Rattle.isa.specs.Widths.{bits}
-use Rattle.ops.specs.Classes.{Class}
-use Rattle.ops.specs.Classes as class
+use Rattle.ops.specs.declared.Class.{Class}
+use Rattle.ops.specs.declared.Class.TheVariants as class
 use Rattle.ops.specs.Meaning.{three_at}
 use Rattle.ops.specs.Table.{Row, table, row_at, class_at, mnemonic}
 use Rattle.ops.proofs.Find.{rule}

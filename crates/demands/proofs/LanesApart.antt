@@ -26,7 +26,7 @@ use Rattle.logic.specs.Logic.{logic_bit}
 use Rattle.logic.proofs.BitLaws.{logic-below, logic-untouched}
 use Rattle.memory.specs.Bytes.{AreBytes}
 use Rattle.memory.specs.File.{register_at}
-use Rattle.ops.specs.Classes as class
+use Rattle.ops.specs.declared.Class.TheVariants as class
 use Rattle.ops.specs.Meaning.{three_at, imm5_at, bit_at, logic_at, count_at, fixed_at}
 use Rattle.ops.specs.Places as places
 use Rattle.ops.specs.Table.{row_at}

@@ -9,8 +9,8 @@ use lib.Dec.{leb}
 use lib.Pow as pow
 use lib.Pow.{mod-mod-pow}
 use Rattle.fields.specs.Fields.{bits}
-use Rattle.ops.specs.Classes.{Class}
-use Rattle.ops.specs.Classes as class
+use Rattle.ops.specs.declared.Class.{Class}
+use Rattle.ops.specs.declared.Class.TheVariants as class
 use Rattle.ops.specs.Formats.{Formats}
 use Rattle.ops.specs.Table.{class_at, formats_at}
 use Rattle.reading.specs.Reading as block

@@ -1,7 +1,7 @@
 // The classes whose entries have an offset or a form of their own: LDI, the loads and stores, the branches, LSA and
 // DLSA.
 ghost use Rattle.std.specs.Prelude.{◌≡◌};
-ghost use Rattle.ops.specs.Classes as class;
+ghost use Rattle.ops.specs.declared.Class.TheVariants as class;
 ghost use Rattle.ops.specs.Packed.{formats_of};
 ghost use Rattle.reading.specs.Reading as reading;
 ghost use Rattle.entries.specs.Entry.{entry_of};

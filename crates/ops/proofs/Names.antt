@@ -9,8 +9,8 @@ use lib.Dec.{eqb, leb}
 use lib.ListN.{length}
 use Rattle.fields.proofs.Fields.{both_left, both_right}
 use Rattle.text.specs.Text.{bytes}
-use Rattle.ops.specs.Classes.{Class}
-use Rattle.ops.specs.Classes as class
+use Rattle.ops.specs.declared.Class.{Class}
+use Rattle.ops.specs.declared.Class.TheVariants as class
 use Rattle.ops.specs.Packed.{class_code}
 use Rattle.ops.specs.Table.{Row, table, row_at, class_at, formats_at, mnemonic}
 use Rattle.ops.specs.Names.{same, whole, alike, place_of_name}

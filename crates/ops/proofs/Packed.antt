@@ -2,18 +2,20 @@
 use mathlib.Core.Path.{◌≡◌, refl, sym, ap, ◌∙◌}
 use mathlib.Core.Bool.{Bool, true, false, cond}
 use mathlib.Core.List.{List, [], ◌∷◌}
-use Prim.Native.Nat.{ℕ, zero, suc, ◌+◌, ◌*◌, ◌/◌, ◌%◌, ◌^◌, ◌<◌, ◌≤◌}
-use native.Mathlib.Decide.{dec_lt}
+use mathlib.Core.Logic.{◌⊎◌, inl, inr}
+use denote.Enum.Bare.{sameb, true_same, false_same}
+use Prim.Native.Nat.{ℕ, zero, suc, ◌+◌, ◌*◌, ◌/◌, ◌%◌, ◌^◌, ◌<◌}
 use native.Mathlib.Omega.{arith}
-use borrow.Author.Tests.{eqb-true, eqb-false, ltb-true}
+use borrow.Author.Tests.{eqb-true, ltb-true}
 use lib.Dec.{eqb, ltb}
-use lib.ListN.{get_or-eq_default}
+use Rattle.std.proofs.lemmas.Bool.{cases_eq, eq-eqb, ne_eqb}
 use Rattle.isa.specs.declared.Width.{Width}
-use Rattle.ops.specs.Classes.{Class}
-use Rattle.ops.specs.Classes as class
+use Rattle.ops.specs.contracts.Class.{the_type}
+use Rattle.ops.specs.declared.Class.{Class}
+use Rattle.ops.specs.declared.Class.TheVariants as class
 use Rattle.ops.specs.Formats.{Formats, bhwd, hwd, bhw, b, v, bare, hw, has}
 use Rattle.ops.specs.Table.{Row, table, row_at, class_at, formats_at}
-use Rattle.ops.specs.Packed.{classes, class_code, class_of, formats_code, formats_of, byte_of, byte_at, eight, row_word}
+use Rattle.ops.specs.Packed.{class_code, class_of, formats_code, formats_of, byte_of, byte_at, eight, row_word}
 use Rattle.ops.proofs.Find.{Others, among, none, rule}
 
 -- the rows that are not all reserved
@@ -110,16 +112,29 @@ class-known =
       | class.Fixed ↦ refl
     ]
 
+-- classes are equal where their numbers are
+pub same-class : (x y : Class) → sameb the_type x y ≡ eqb (class_code x) (class_code y)
+same-class x y = go (cases_eq (class_code x) (class_code y))
+  where
+    go : (class_code x ≡ class_code y) ⊎ (class_code x ≡ class_code y → ⊥)
+        → sameb the_type x y ≡ eqb (class_code x) (class_code y)
+    go (inl e) =
+        true_same the_type x y (sym (class-known x) ∙ ap class_of e ∙ class-known y) ∙ sym (eq-eqb _ _ e)
+    go (inr d) = false_same the_type tt x y (λ e. d (ap class_code e)) ∙ sym (ne_eqb _ _ d)
+
 formats-known : (f : Formats) → formats_of (formats_code f) ≡ f
 formats-known = elim [ bhwd ↦ refl | hwd ↦ refl | bhw ↦ refl | b ↦ refl | v ↦ refl | bare ↦ refl | hw ↦ refl ]
 
-code-small : (k : ℕ) → class_code (class_at k) < 32
+code-small : (k : ℕ) → class_code (class_at k) < 25
 unfolding row_at
-code-small k = ltb-true _ 32 (rule (λ k r. ltb (class_code r.class) 32) (λ k. refl) table refl k)
+code-small k = ltb-true _ 25 (rule (λ k r. ltb (class_code r.class) 25) (λ k. refl) table refl k)
 
 pub class-part : (k : ℕ) → byte_at k % 32 ≡ class_code (class_at k)
 unfolding byte_at
 class-part k = let h = code-small k in omega arith
+
+pub class-small : (k : ℕ) → byte_at k % 32 < 25
+class-small k = rw (class-part k) (code-small k)
 
 formats-part : (k : ℕ) → byte_at k / 32 ≡ formats_code (formats_at k)
 unfolding byte_at
@@ -139,31 +154,7 @@ fixed-formats k e =
     let t : eqb (formats_code (formats_at k)) 6 ≡ true = rw e at (rule only (λ k. refl) table refl k) in
     sym (formats-known (formats_at k)) ∙ ap formats_of (eqb-true (formats_code (formats_at k)) 6 t)
 
--- ---- numbers that an enum's match leaves over
-
-abbrev pub span : ℕ → ℕ → List ℕ
-span i zero = []
-span i (suc c) = i ∷ span (suc i) c
-
-among-span : (i c n : ℕ) → i ≤ n → n < i + c → among n (span i c) ≡ true
-among-span i zero n h l = absurd (omega arith)
-among-span i (suc c) n h l = go (eqb i n) refl (λ (q : suc i ≤ n). among-span (suc i) c n q (omega arith))
-  where
-    go : (t : Bool) → eqb i n ≡ t → (suc i ≤ n → among n (span (suc i) c) ≡ true)
-        → cond t true (among n (span (suc i) c)) ≡ true
-    go true e next = refl
-    go false e next = let d = eqb-false i n e in next (omega (arith, d))
-
-pub no-class : (n : ℕ) → Others n (Unit {0}) (span 1 24) → class_of n ≡ class.Reserved
-no-class zero h = refl
-no-class (suc n) h = go (dec_lt (suc n) 25)
-  where
-    go : Dec (suc n < 25) → class_of (suc n) ≡ class.Reserved
-    go (yes l) =
-        let f = (none (suc n) (span 1 24) (Unit {0}) h).1 in
-        let t = among-span 1 24 (suc n) (omega arith) (omega arith) in
-        absurd (let z : ◌≡◌ {A = ℕ} 0 1 = cc in omega arith)
-    go (no l) = let q : 25 ≤ suc n = omega arith in get_or-eq_default classes class.Reserved q
+-- ---- numbers that a match leaves over
 
 pub no-form : (n : ℕ) (df : Width) → Others n (Unit {0}) (0 ∷ 1 ∷ 2 ∷ 3 ∷ 6 ∷ []) → has (formats_of n) df ≡ false
 no-form zero df h = absurd (h.0.0.0.0.1 refl)

@@ -1,4 +1,3 @@
-pub mod Classes
 pub mod Formats
 pub mod Meaning
 pub mod Names

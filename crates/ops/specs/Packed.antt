@@ -1,7 +1,7 @@
 -- How the code holds the table: a byte a place, with the class and, 32 times, the formats; eight places in one number.
 use Rattle.std.specs.Prelude.{List, [], ◌∷◌, ℕ, ◌+◌, ◌*◌, get_or}
-use Rattle.ops.specs.Classes.{Class}
-use Rattle.ops.specs.Classes as class
+use Rattle.ops.specs.declared.Class.{Class}
+use Rattle.ops.specs.declared.Class.TheVariants as class
 use Rattle.ops.specs.Formats.{Formats, bhwd, hwd, bhw, b, v, bare, hw}
 use Rattle.ops.specs.Table.{Row, row_at}
 

@@ -47,8 +47,8 @@ use Rattle.isa.specs.declared.Three.TheVariants as three
 use Rattle.isa.specs.declared.BitOp.{BitOp}
 use Rattle.isa.specs.declared.BitOp.TheVariants as bit
 use Rattle.text.specs.Text.{bytes}
-use Rattle.ops.specs.Classes.{Class}
-use Rattle.ops.specs.Classes as class
+use Rattle.ops.specs.declared.Class.{Class}
+use Rattle.ops.specs.declared.Class.TheVariants as class
 use Rattle.ops.specs.Formats.{Formats, bhwd, hwd, bhw, b, v, bare, hw, has}
 use Rattle.ops.specs.Places as place
 

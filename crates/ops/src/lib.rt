@@ -2,15 +2,46 @@
 // words, and specs/Packed.antt what a byte says.
 #![tactic(auto)]
 
-ghost use Rattle.std.specs.Prelude.{◌≡◌, ◌/◌, ◌%◌, ◌^◌, eqb};
+ghost use Rattle.std.specs.Prelude.{◌≡◌, ◌<◌, ◌/◌, ◌%◌, ◌^◌, eqb};
 ghost use Rattle.isa.specs.declared.Width.{Width};
 ghost use Rattle.isa.specs.Widths.{width_code};
 ghost use Rattle.ops.specs.Formats as formats;
 ghost use Rattle.ops.specs.Table.{class_at, has_form};
-ghost use Rattle.ops.specs.Packed.{class_code, formats_of, byte_at, row_word};
+ghost use Rattle.ops.specs.Packed.{class_code, class_of, formats_of, byte_at, row_word};
 
 use isa::Width;
 use isa::widths::width_code;
+
+// The classes of operations: which operands an instruction has, and where they stand in its word; or that a place is
+// reserved, or left out here.
+#[derive(Clone, Copy, Debug, PartialEq, Eq)]
+pub enum Class {
+    Reserved,
+    Three,
+    Indexed,
+    Imm5U,
+    Imm5S,
+    Ldi,
+    Bit,
+    Imm8,
+    Shf,
+    Element,
+    Insve,
+    Copy,
+    Insert,
+    Move,
+    Cfcmsa,
+    Ctcmsa,
+    Vec,
+    Fill,
+    Count,
+    Memory,
+    Branch,
+    BranchV,
+    Scaled,
+    LeftOut,
+    Fixed,
+}
 
 // A row of the table in one number, a byte a column.
 fn row_word(m: u32) -> u64
@@ -109,11 +140,47 @@ pub fn byte_beside(k: u32) -> u64
     (row_beside(k / 8) >> (k % 8 * 8)) % 256
 }
 
-// Whether the class at a place has this number.
-pub fn stands(k: u32, class: u64) -> bool
-    ensures { result ≡ eqb (class_code (class_at k)) class }
+// The class of a number, as a byte of the table holds it. No number is left over for a class of its own, so the number
+// is the enum's: a reader's match on the class is one jump by it.
+pub fn class_of(n: u64) -> Class
+    requires { n < 25 }
+    ensures { result ≡ class_of n }
 {
-    byte_at(k) % 32 == class
+    match n {
+        0 => Class::Reserved,
+        1 => Class::Three,
+        2 => Class::Indexed,
+        3 => Class::Imm5U,
+        4 => Class::Imm5S,
+        5 => Class::Ldi,
+        6 => Class::Bit,
+        7 => Class::Imm8,
+        8 => Class::Shf,
+        9 => Class::Element,
+        10 => Class::Insve,
+        11 => Class::Copy,
+        12 => Class::Insert,
+        13 => Class::Move,
+        14 => Class::Cfcmsa,
+        15 => Class::Ctcmsa,
+        16 => Class::Vec,
+        17 => Class::Fill,
+        18 => Class::Count,
+        19 => Class::Memory,
+        20 => Class::Branch,
+        21 => Class::BranchV,
+        22 => Class::Scaled,
+        23 => Class::LeftOut,
+        24 => Class::Fixed,
+        _ => unreachable!(),
+    }
+}
+
+// Whether a place is of a class.
+pub fn stands(k: u32, class: Class) -> bool
+    ensures { result ≡ eqb (class_code (class_at k)) (class_code class) }
+{
+    class_of(byte_at(k) % 32) == class
 }
 
 // A choice of formats, by its number, in bits: a format's stands at the place of its code.

@@ -9,8 +9,8 @@ use Rattle.isa.specs.declared.Instr.{Instr}
 use Rattle.isa.specs.declared.Instr.TheVariants as instr
 use Rattle.isa.specs.declared.Unread.TheVariants.{Unassigned, LeftOut, Other}
 use Rattle.isa.specs.declared.Unread.{Unread}
-use Rattle.ops.specs.Classes.{Class}
-use Rattle.ops.specs.Classes as class
+use Rattle.ops.specs.declared.Class.{Class}
+use Rattle.ops.specs.declared.Class.TheVariants as class
 use Rattle.isa.specs.Numbers.{read_said}
 use Rattle.isa.specs.Widths.{width_at, hw_at}
 use Rattle.fields.specs.Fields.{bits, both}

@@ -2,9 +2,9 @@
 // and has one caller, the step, which it is compiled into.
 ghost use Rattle.std.specs.Prelude.{◌≡◌, cond, ◌<◌};
 ghost use Rattle.fields.specs.Fields.{bits, both};
-ghost use Rattle.ops.specs.Classes as class;
+ghost use Rattle.ops.specs.declared.Class.TheVariants as class;
 ghost use Rattle.ops.specs.Formats as formats;
-ghost use Rattle.ops.specs.Packed.{class_of, formats_of};
+ghost use Rattle.ops.specs.Packed.{formats_of};
 ghost use Rattle.reading.specs.Ahead.{ahead_of};
 ghost use Rattle.reading.specs.Index as index;
 ghost use Rattle.reading.specs.Index.{element_index};
@@ -16,7 +16,7 @@ use crate::operands::*;
 use crate::place::{msa_place, other_place};
 use isa::widths::width_at;
 use isa::{Creg, Greg, Op, Unread, Width};
-use ops::{byte_beside, has};
+use ops::{Class, byte_beside, class_of, has};
 
 #[derive(Clone, Copy)]
 pub enum Ahead {
@@ -75,40 +75,37 @@ fn memory_ahead(f: u64, k: u16, w: u32) -> Ahead
     )
 }
 
-// By the numbers of the class and of the formats at the place k, as `read_class`.
-fn class_ahead(n: u64, f: u64, k: u16, w: u32) -> Ahead
-    ensures { result ≡ ahead_of (reading.read_class (class_of n) (formats_of f) k w) }
+// By the class and by the number of the formats at the place k, as `read_class`.
+fn class_ahead(c: Class, f: u64, k: u16, w: u32) -> Ahead
+    ensures { result ≡ ahead_of (reading.read_class c (formats_of f) k w) }
 {
-    match n {
-        1 => told(w, has_df(f, w), Ahead::Vector),
-        2 => told(w, has_df(f, w), Ahead::Vector),
-        3 => told(w, has_df(f, w), Ahead::Vector),
-        4 => told(w, has_df(f, w), Ahead::Vector),
-        5 => told(w, has_df(f, w), Ahead::Vector),
-        6 => told(
+    match c {
+        Class::Three | Class::Indexed | Class::Imm5U | Class::Imm5S | Class::Ldi => told(
+            w,
+            has_df(f, w),
+            Ahead::Vector,
+        ),
+        Class::Bit => told(
             w,
             has_index(f, bit_index((w / 65536 % 128) as u8)),
             Ahead::Vector,
         ),
-        7 => Ahead::Vector,
-        8 => told(w, has(f, width_at(w / 16777216 % 4)), Ahead::Vector),
-        9 => told(w, has_element(f, w), Ahead::Vector),
-        10 => told(w, has_element(f, w), Ahead::Vector),
-        11 => told(w, has_element(f, w), Ahead::Vector),
-        12 => told(w, has_element(f, w), Ahead::Vector),
-        13 => Ahead::Vector,
-        14 => Ahead::Vector,
-        15 => Ahead::Control(cd(w), gs(w)),
-        16 => Ahead::Vector,
-        17 => told(w, has(f, width_at(w / 65536 % 4)), Ahead::Vector),
-        18 => told(w, has(f, width_at(w / 65536 % 4)), Ahead::Vector),
-        19 => memory_ahead(f, k, w),
-        20 => told(w, has_df(f, w), Ahead::Branch),
-        21 => told(w, w / 2097152 % 4 == 3, Ahead::Branch),
-        22 => told(w, w / 256 % 8 == 0, Ahead::Free),
-        23 => Ahead::Not(Unread::LeftOut),
-        24 => told(w, has(f, hw(w)), Ahead::Vector),
-        _ => Ahead::Not(no_instr(w)),
+        Class::Shf => told(w, has(f, width_at(w / 16777216 % 4)), Ahead::Vector),
+        Class::Element | Class::Insve | Class::Copy | Class::Insert => told(
+            w,
+            has_element(f, w),
+            Ahead::Vector,
+        ),
+        Class::Imm8 | Class::Move | Class::Cfcmsa | Class::Vec => Ahead::Vector,
+        Class::Ctcmsa => Ahead::Control(cd(w), gs(w)),
+        Class::Fill | Class::Count => told(w, has(f, width_at(w / 65536 % 4)), Ahead::Vector),
+        Class::Memory => memory_ahead(f, k, w),
+        Class::Branch => told(w, has_df(f, w), Ahead::Branch),
+        Class::BranchV => told(w, w / 2097152 % 4 == 3, Ahead::Branch),
+        Class::Scaled => told(w, w / 256 % 8 == 0, Ahead::Free),
+        Class::Fixed => told(w, has(f, hw(w)), Ahead::Vector),
+        Class::LeftOut => Ahead::Not(Unread::LeftOut),
+        Class::Reserved => Ahead::Not(no_instr(w)),
     }
 }
 
@@ -128,5 +125,5 @@ pub fn ahead_of(w: u32) -> Ahead
 {
     let k = place(w);
     let byte = byte_beside(k);
-    class_ahead(byte % 32, byte / 32, k as u16, w)
+    class_ahead(class_of(byte % 32), byte / 32, k as u16, w)
 }

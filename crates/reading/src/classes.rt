@@ -1,6 +1,6 @@
 // Each class of words, once the place of its operation is known.
 ghost use Rattle.std.specs.Prelude.{◌≡◌};
-ghost use Rattle.ops.specs.Classes as class;
+ghost use Rattle.ops.specs.declared.Class.TheVariants as class;
 ghost use Rattle.ops.specs.Packed.{formats_of};
 ghost use Rattle.reading.specs.Ahead.{no_instr};
 ghost use Rattle.reading.specs.Reading as reading;

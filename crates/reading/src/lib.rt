@@ -9,44 +9,44 @@ pub mod operands;
 pub mod place;
 
 ghost use Rattle.std.specs.Prelude.{◌≡◌};
-ghost use Rattle.ops.specs.Packed.{class_of, formats_of};
+ghost use Rattle.ops.specs.Packed.{formats_of};
 ghost use Rattle.reading.specs.Reading as reading;
 
 use crate::classes::*;
 use crate::place::place_of;
 use isa::{Instr, Unread};
-use ops::byte_at;
+use ops::{Class, byte_at, class_of};
 
-// By the numbers of the class and of the formats at the place k (ops/specs/Packed.antt).
-fn read_class(n: u64, f: u64, k: u16, w: u32) -> Result<Instr, Unread>
-    ensures { result ≡ reading.read_class (class_of n) (formats_of f) k w }
+// By the class and by the number of the formats at the place k (ops/specs/Packed.antt).
+fn read_class(c: Class, f: u64, k: u16, w: u32) -> Result<Instr, Unread>
+    ensures { result ≡ reading.read_class c (formats_of f) k w }
 {
-    match n {
-        1 => three(f, k, w),
-        2 => indexed(f, k, w),
-        3 => imm5_u(f, k, w),
-        4 => imm5_s(f, k, w),
-        5 => ldi(f, k, w),
-        6 => bit(f, k, w),
-        7 => imm_8(k, w),
-        8 => shf(f, k, w),
-        9 => element(f, k, w),
-        10 => insve(f, k, w),
-        11 => copied(f, k, w),
-        12 => insert(f, k, w),
-        13 => move_v(w),
-        14 => cfcmsa(w),
-        15 => ctcmsa(w),
-        16 => vec(k, w),
-        17 => fill(f, k, w),
-        18 => count(f, k, w),
-        19 => memory(f, k, w),
-        20 => branch(f, k, w),
-        21 => branch_v(k, w),
-        22 => scaled(k, w),
-        23 => Err(Unread::LeftOut),
-        24 => fixed(f, k, w),
-        _ => vacant(w),
+    match c {
+        Class::Three => three(f, k, w),
+        Class::Indexed => indexed(f, k, w),
+        Class::Imm5U => imm5_u(f, k, w),
+        Class::Imm5S => imm5_s(f, k, w),
+        Class::Ldi => ldi(f, k, w),
+        Class::Bit => bit(f, k, w),
+        Class::Imm8 => imm_8(k, w),
+        Class::Shf => shf(f, k, w),
+        Class::Element => element(f, k, w),
+        Class::Insve => insve(f, k, w),
+        Class::Copy => copied(f, k, w),
+        Class::Insert => insert(f, k, w),
+        Class::Move => move_v(w),
+        Class::Cfcmsa => cfcmsa(w),
+        Class::Ctcmsa => ctcmsa(w),
+        Class::Vec => vec(k, w),
+        Class::Fill => fill(f, k, w),
+        Class::Count => count(f, k, w),
+        Class::Memory => memory(f, k, w),
+        Class::Branch => branch(f, k, w),
+        Class::BranchV => branch_v(k, w),
+        Class::Scaled => scaled(k, w),
+        Class::LeftOut => Err(Unread::LeftOut),
+        Class::Fixed => fixed(f, k, w),
+        Class::Reserved => vacant(w),
     }
 }
 
@@ -59,5 +59,5 @@ pub fn read_word(w: u32) -> Result<Instr, Unread>
         return vacant(w);
     }
     let byte = byte_at(k as u32);
-    read_class(byte % 32, byte / 32, k, w)
+    read_class(class_of(byte % 32), byte / 32, k, w)
 }

@@ -14,8 +14,8 @@ use Rattle.isa.specs.declared.Width.{Width}
 use Rattle.isa.specs.declared.Width.TheVariants.{B, H, W, D}
 use Rattle.isa.specs.Widths as format
 use Rattle.fields.specs.Fields.{pick, fits, word_of}
-use Rattle.ops.specs.Classes.{Class}
-use Rattle.ops.specs.Classes as class
+use Rattle.ops.specs.declared.Class.{Class}
+use Rattle.ops.specs.declared.Class.TheVariants as class
 use Rattle.ops.specs.Table.{row_at, class_at, mnemonic}
 use Rattle.ops.specs.Names.{place_of_name}
 use Rattle.ops.proofs.Names.{unnamed, place-back, whole_class, whole-class}

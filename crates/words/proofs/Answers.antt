@@ -12,7 +12,7 @@ use Rattle.std.specs.Prelude.{Ok, Err, Result}
 use Rattle.isa.specs.declared.Unread.{Unread}
 use Rattle.isa.specs.Widths as format
 use Rattle.isa.proofs.Apart.{read-apart, written_apart}
-use Rattle.ops.specs.Classes as class
+use Rattle.ops.specs.declared.Class.TheVariants as class
 use Rattle.ops.specs.Places as place
 use Rattle.ops.specs.Table.{has_form}
 use Rattle.fields.proofs.Fields.{both_left, both_right, fits-at}

@@ -11,8 +11,8 @@ use lib.ListN.{get_or}
 use Rattle.fields.specs.Fields.{bits, both}
 use Rattle.fields.proofs.Fields.{both_left, both_right, split}
 use Rattle.fields.proofs.Table.{every, at}
-use Rattle.ops.specs.Classes.{Class}
-use Rattle.ops.specs.Classes as class
+use Rattle.ops.specs.declared.Class.{Class}
+use Rattle.ops.specs.declared.Class.TheVariants as class
 use Rattle.ops.specs.Packed.{class_code}
 use Rattle.ops.specs.Places as place
 use Rattle.ops.specs.Table.{table, row_at, class_at}

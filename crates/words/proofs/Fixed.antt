@@ -7,7 +7,7 @@ use lib.Dec.{ltb}
 use Rattle.isa.specs.declared.Width.{Width}
 use Rattle.isa.specs.declared.Width.TheVariants.{B, H, W, D}
 use Rattle.isa.specs.Widths.{bits, hw_code, hw_at}
-use Rattle.ops.specs.Classes as class
+use Rattle.ops.specs.declared.Class.TheVariants as class
 use Rattle.ops.specs.Formats.{hw, has}
 use Rattle.ops.specs.Table.{class_at, has_form}
 use Rattle.ops.proofs.Packed.{fixed-formats}

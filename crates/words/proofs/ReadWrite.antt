@@ -14,8 +14,8 @@ use Rattle.std.specs.Prelude.{Ok, Err, Result, Some}
 use Rattle.isa.specs.declared.Unread.{Unread}
 use Rattle.isa.specs.Widths as format
 use Rattle.isa.specs.Widths.{width_at, width_code, hw_at, hw_code}
-use Rattle.ops.specs.Classes.{Class}
-use Rattle.ops.specs.Classes as class
+use Rattle.ops.specs.declared.Class.{Class}
+use Rattle.ops.specs.declared.Class.TheVariants as class
 use Rattle.ops.specs.Places as place
 use Rattle.ops.specs.Table.{class_at, formats_at, has_form}
 use Rattle.fields.specs.Fields.{both, bits, total}

@@ -13,8 +13,8 @@ use Rattle.isa.specs.declared.Instr.TheVariants as instr
 use Rattle.isa.specs.Numbers.{number_in, written_said}
 use Rattle.isa.specs.Widths as format
 use Rattle.isa.specs.Widths.{width_code}
-use Rattle.ops.specs.Classes.{Class}
-use Rattle.ops.specs.Classes as class
+use Rattle.ops.specs.declared.Class.{Class}
+use Rattle.ops.specs.declared.Class.TheVariants as class
 use Rattle.ops.specs.Packed.{class_code}
 use Rattle.ops.specs.Table.{table, row_at, class_at}
 use Rattle.ops.proofs.Find.{rule}

@@ -12,8 +12,8 @@ use Rattle.isa.specs.declared.Instr.TheVariants as instr
 use Rattle.std.specs.Prelude.{Ok, Option, Some, None}
 use Rattle.isa.specs.Widths as format
 use Rattle.isa.specs.Widths.{width_at, width_code}
-use Rattle.ops.specs.Classes.{Class}
-use Rattle.ops.specs.Classes as class
+use Rattle.ops.specs.declared.Class.{Class}
+use Rattle.ops.specs.declared.Class.TheVariants as class
 use Rattle.ops.specs.Packed.{class_code}
 use Rattle.ops.specs.Places as place
 use Rattle.ops.specs.Table.{row_at, class_at, formats_at, has_form}

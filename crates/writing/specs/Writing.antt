@@ -8,8 +8,8 @@ use Rattle.isa.specs.declared.Instr.{Instr}
 use Rattle.isa.specs.declared.Instr.TheVariants as instr
 use Rattle.writing.specs.declared.Layout.{Layout}
 use Rattle.fields.specs.Fields.{pick, both, total, word_of, fits}
-use Rattle.ops.specs.Classes.{Class}
-use Rattle.ops.specs.Classes as class
+use Rattle.ops.specs.declared.Class.{Class}
+use Rattle.ops.specs.declared.Class.TheVariants as class
 use Rattle.ops.specs.Packed.{class_code}
 use Rattle.ops.specs.Places as place
 use Rattle.ops.specs.Table.{class_at, has_form}

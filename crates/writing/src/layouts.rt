@@ -10,7 +10,7 @@ use crate::Layout;
 use crate::places::{bit_code, bit_size, element_code, element_count};
 use isa::widths::{hw_code, width_code};
 use isa::*;
-use ops::{has_form, stands};
+use ops::{Class, has_form, stands};
 
 // The widths of the fields.
 const I8: [u32; 7] = [6, 2, 8, 5, 5, 6, 0];
@@ -36,14 +36,14 @@ const BRANCH: [u32; 7] = [6, 3, 2, 5, 16, 0, 0];
 const SPECIAL: [u32; 7] = [6, 5, 5, 5, 3, 2, 6];
 
 // Whether an operation is one of a class, and has a format.
-fn of_class(op: Op, class: u64) -> bool
-    ensures { result ≡ eqb (class_code (class_at op.0)) class }
+fn of_class(op: Op, class: Class) -> bool
+    ensures { result ≡ eqb (class_code (class_at op.0)) (class_code class) }
 {
     stands(op.0 as u32, class)
 }
 
-fn formed(op: Op, class: u64, df: Width) -> bool
-    ensures { result ≡ both (eqb (class_code (class_at op.0)) class) (has_form op.0 df) }
+fn formed(op: Op, class: Class, df: Width) -> bool
+    ensures { result ≡ both (eqb (class_code (class_at op.0)) (class_code class)) (has_form op.0 df) }
 {
     of_class(op, class) & has_form(op.0 as u32, df)
 }
@@ -111,25 +111,25 @@ fn jump(ok: bool, op: Op, df: u32, t: u8, offset: u16) -> Layout
 pub fn three(op: Op, df: Width, wd: Vreg, ws: Vreg, wt: Vreg) -> Layout
     ensures { result ≡ writing.layout_of (Instr.Three op df wd ws wt) }
 {
-    five(formed(op, 1, df), op, df, wt.0, ws.0, wd.0)
+    five(formed(op, Class::Three, df), op, df, wt.0, ws.0, wd.0)
 }
 
 pub fn indexed(op: Op, df: Width, wd: Vreg, ws: Vreg, rt: Greg) -> Layout
     ensures { result ≡ writing.layout_of (Instr.Indexed op df wd ws rt) }
 {
-    five(formed(op, 2, df), op, df, rt.0, ws.0, wd.0)
+    five(formed(op, Class::Indexed, df), op, df, rt.0, ws.0, wd.0)
 }
 
 pub fn imm5_u(op: Op, df: Width, wd: Vreg, ws: Vreg, imm: u8) -> Layout
     ensures { result ≡ writing.layout_of (Instr.Imm5U op df wd ws imm) }
 {
-    five(formed(op, 3, df), op, df, imm, ws.0, wd.0)
+    five(formed(op, Class::Imm5U, df), op, df, imm, ws.0, wd.0)
 }
 
 pub fn imm5_s(op: Op, df: Width, wd: Vreg, ws: Vreg, imm: u8) -> Layout
     ensures { result ≡ writing.layout_of (Instr.Imm5S op df wd ws imm) }
 {
-    five(formed(op, 4, df), op, df, imm, ws.0, wd.0)
+    five(formed(op, Class::Imm5S, df), op, df, imm, ws.0, wd.0)
 }
 
 pub fn ldi(df: Width, wd: Vreg, imm: u16) -> Layout
@@ -147,7 +147,7 @@ pub fn bit(op: Op, df: Width, wd: Vreg, ws: Vreg, m: u8) -> Layout
 {
     let k = op.0 as u32;
     Layout {
-        ok: formed(op, 6, df) & (m < bit_size(df)),
+        ok: formed(op, Class::Bit, df) & (m < bit_size(df)),
         widths: BIT,
         values: [
             30,
@@ -165,7 +165,7 @@ pub fn imm8(op: Op, wd: Vreg, ws: Vreg, imm: u8) -> Layout
     ensures { result ≡ writing.layout_of (Instr.Imm8 op wd ws imm) }
 {
     let k = op.0 as u32;
-    eight(of_class(op, 7), k % 8, imm, ws.0, wd.0, k / 8)
+    eight(of_class(op, Class::Imm8), k % 8, imm, ws.0, wd.0, k / 8)
 }
 
 pub fn shf(df: Width, wd: Vreg, ws: Vreg, imm: u8) -> Layout
@@ -177,7 +177,7 @@ pub fn shf(df: Width, wd: Vreg, ws: Vreg, imm: u8) -> Layout
 pub fn element(op: Op, df: Width, wd: Vreg, ws: Vreg, n: u8) -> Layout
     ensures { result ≡ writing.layout_of (Instr.Element op df wd ws n) }
 {
-    let ok = formed(op, 9, df) & (n < element_count(df));
+    let ok = formed(op, Class::Element, df) & (n < element_count(df));
     elm(ok, op.0 as u32 % 16, element_code(df, n), ws.0, wd.0)
 }
 
@@ -191,7 +191,7 @@ pub fn insve(df: Width, wd: Vreg, n: u8, ws: Vreg) -> Layout
 pub fn copied(op: Op, df: Width, rd: Greg, ws: Vreg, n: u8) -> Layout
     ensures { result ≡ writing.layout_of (Instr.Copy op df rd ws n) }
 {
-    let ok = formed(op, 11, df) & (n < element_count(df));
+    let ok = formed(op, Class::Copy, df) & (n < element_count(df));
     elm(ok, op.0 as u32 % 16, element_code(df, n), ws.0, rd.0)
 }
 
@@ -225,7 +225,7 @@ pub fn vec(op: Op, wd: Vreg, ws: Vreg, wt: Vreg) -> Layout
 {
     let k = op.0 as u32;
     Layout {
-        ok: of_class(op, 16),
+        ok: of_class(op, Class::Vec),
         widths: VEC,
         values: [30, k % 32, wt.0 as u32, ws.0 as u32, wd.0 as u32, 30, 0],
     }
@@ -240,7 +240,13 @@ pub fn fill(df: Width, wd: Vreg, rs: Greg) -> Layout
 pub fn count(op: Op, df: Width, wd: Vreg, ws: Vreg) -> Layout
     ensures { result ≡ writing.layout_of (Instr.Count op df wd ws) }
 {
-    two(formed(op, 18, df), op.0 as u32 % 8, df, ws.0, wd.0)
+    two(
+        formed(op, Class::Count, df),
+        op.0 as u32 % 8,
+        df,
+        ws.0,
+        wd.0,
+    )
 }
 
 pub fn memory(op: Op, df: Width, wd: Vreg, offset: u16, rs: Greg) -> Layout
@@ -248,7 +254,7 @@ pub fn memory(op: Op, df: Width, wd: Vreg, offset: u16, rs: Greg) -> Layout
 {
     let k = op.0 as u32;
     Layout {
-        ok: formed(op, 19, df),
+        ok: formed(op, Class::Memory, df),
         widths: MI10,
         values: [
             30,
@@ -265,13 +271,19 @@ pub fn memory(op: Op, df: Width, wd: Vreg, offset: u16, rs: Greg) -> Layout
 pub fn branch(op: Op, df: Width, wt: Vreg, offset: u16) -> Layout
     ensures { result ≡ writing.layout_of (Instr.Branch op df wt offset) }
 {
-    jump(formed(op, 20, df), op, width_code(df), wt.0, offset)
+    jump(
+        formed(op, Class::Branch, df),
+        op,
+        width_code(df),
+        wt.0,
+        offset,
+    )
 }
 
 pub fn branch_v(op: Op, wt: Vreg, offset: u16) -> Layout
     ensures { result ≡ writing.layout_of (Instr.BranchV op wt offset) }
 {
-    jump(of_class(op, 21), op, 3, wt.0, offset)
+    jump(of_class(op, Class::BranchV), op, 3, wt.0, offset)
 }
 
 pub fn scaled(op: Op, rd: Greg, rs: Greg, rt: Greg, sa: u8) -> Layout
@@ -279,7 +291,7 @@ pub fn scaled(op: Op, rd: Greg, rs: Greg, rt: Greg, sa: u8) -> Layout
 {
     let k = op.0 as u32;
     Layout {
-        ok: of_class(op, 22),
+        ok: of_class(op, Class::Scaled),
         widths: SPECIAL,
         values: [
             0,
@@ -298,7 +310,7 @@ pub fn fixed(op: Op, df: Width, wd: Vreg, ws: Vreg, wt: Vreg) -> Layout
 {
     let k = op.0 as u32;
     Layout {
-        ok: formed(op, 24, df),
+        ok: formed(op, Class::Fixed, df),
         widths: FLOAT,
         values: [
             30,

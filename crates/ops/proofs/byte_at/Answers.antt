@@ -1,5 +1,4 @@
 -- `ops::byte_at` meets its contract: a column of a row.
-use borrow.Author.Rules.{rules}
 use Rattle.ops.proofs.Packed.{column}
 use Rattle.ops.proofs.byte_at.Goals as goal
 

@@ -1,5 +1,4 @@
 -- `ops::byte_beside` meets its contract: a column of a row.
-use borrow.Author.Rules.{rules}
 use Rattle.ops.proofs.Packed.{column}
 use Rattle.ops.proofs.byte_beside.Goals as goal
 

@@ -1,5 +1,4 @@
 -- `ops::has` meets its contract: the bit at the place of the format's code.
-use borrow.Author.Rules.{rules}
 use native.Mathlib.Omega.{arith}
 use Rattle.ops.proofs.has.Goals as goal
 

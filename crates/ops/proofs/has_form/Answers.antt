@@ -1,5 +1,4 @@
 -- `ops::has_form` meets its contract.
-use borrow.Author.Rules.{rules}
 use Rattle.ops.proofs.Packed.{formats-in}
 use Rattle.ops.proofs.has_form.Goals as goal
 

@@ -1,6 +1,5 @@
 -- `ops::row_beside` meets its contract: an arm a row.
 use mathlib.Core.Path.{sym}
-use borrow.Author.Rules.{rules}
 use Rattle.ops.proofs.Packed.{vacant}
 use Rattle.ops.proofs.row_beside.Goals as goal
 

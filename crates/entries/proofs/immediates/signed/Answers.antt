@@ -1,6 +1,6 @@
 -- `entries::immediates::signed` meets its contract.
-use Rattle.permute.proofs.Extensions.{wrap-narrow}
 use Rattle.std.proofs.Common.{rules}
+use Rattle.permute.proofs.Extensions.{wrap-narrow}
 use Rattle.entries.proofs.immediates.signed.Goals as goal
 
 pub returns : goal.returns
