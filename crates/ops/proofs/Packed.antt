@@ -2,15 +2,11 @@
 use mathlib.Core.Path.{◌≡◌, refl, sym, ap, ◌∙◌}
 use mathlib.Core.Bool.{Bool, true, false, cond}
 use mathlib.Core.List.{List, [], ◌∷◌}
-use mathlib.Core.Logic.{◌⊎◌, inl, inr}
-use denote.Enum.Bare.{sameb, true_same, false_same}
 use Prim.Native.Nat.{ℕ, zero, suc, ◌+◌, ◌*◌, ◌/◌, ◌%◌, ◌^◌, ◌<◌}
 use native.Mathlib.Omega.{arith}
 use borrow.Author.Tests.{eqb-true, ltb-true}
 use lib.Dec.{eqb, ltb}
-use Rattle.std.proofs.lemmas.Bool.{cases_eq, eq-eqb, ne_eqb}
 use Rattle.isa.specs.declared.Width.{Width}
-use Rattle.ops.specs.contracts.Class.{the_type}
 use Rattle.ops.specs.declared.Class.{Class}
 use Rattle.ops.specs.declared.Class.TheVariants as class
 use Rattle.ops.specs.Formats.{Formats, bhwd, hwd, bhw, b, v, bare, hw, has}
@@ -111,16 +107,6 @@ class-known =
       | class.LeftOut ↦ refl
       | class.Fixed ↦ refl
     ]
-
--- classes are equal where their numbers are
-pub same-class : (x y : Class) → sameb the_type x y ≡ eqb (class_code x) (class_code y)
-same-class x y = go (cases_eq (class_code x) (class_code y))
-  where
-    go : (class_code x ≡ class_code y) ⊎ (class_code x ≡ class_code y → ⊥)
-        → sameb the_type x y ≡ eqb (class_code x) (class_code y)
-    go (inl e) =
-        true_same the_type x y (sym (class-known x) ∙ ap class_of e ∙ class-known y) ∙ sym (eq-eqb _ _ e)
-    go (inr d) = false_same the_type tt x y (λ e. d (ap class_code e)) ∙ sym (ne_eqb _ _ d)
 
 formats-known : (f : Formats) → formats_of (formats_code f) ≡ f
 formats-known = elim [ bhwd ↦ refl | hwd ↦ refl | bhw ↦ refl | b ↦ refl | v ↦ refl | bare ↦ refl | hw ↦ refl ]

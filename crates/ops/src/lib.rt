@@ -176,11 +176,46 @@ pub fn class_of(n: u64) -> Class
     }
 }
 
-// Whether a place is of a class.
-pub fn stands(k: u32, class: Class) -> bool
-    ensures { result ≡ eqb (class_code (class_at k)) (class_code class) }
+// The number of a class, as a byte of the table holds it.
+impl From<Class> for u64 {
+    ghost from_gives = { λ c n. n ≡ class_code c };
+
+    fn from(c: Class) -> u64 {
+        match c {
+            Class::Reserved => 0,
+            Class::Three => 1,
+            Class::Indexed => 2,
+            Class::Imm5U => 3,
+            Class::Imm5S => 4,
+            Class::Ldi => 5,
+            Class::Bit => 6,
+            Class::Imm8 => 7,
+            Class::Shf => 8,
+            Class::Element => 9,
+            Class::Insve => 10,
+            Class::Copy => 11,
+            Class::Insert => 12,
+            Class::Move => 13,
+            Class::Cfcmsa => 14,
+            Class::Ctcmsa => 15,
+            Class::Vec => 16,
+            Class::Fill => 17,
+            Class::Count => 18,
+            Class::Memory => 19,
+            Class::Branch => 20,
+            Class::BranchV => 21,
+            Class::Scaled => 22,
+            Class::LeftOut => 23,
+            Class::Fixed => 24,
+        }
+    }
+}
+
+// Whether the class at a place has this number.
+pub fn stands(k: u32, class: u64) -> bool
+    ensures { result ≡ eqb (class_code (class_at k)) class }
 {
-    class_of(byte_at(k) % 32) == class
+    byte_at(k) % 32 == class
 }
 
 // A choice of formats, by its number, in bits: a format's stands at the place of its code.

@@ -39,7 +39,7 @@ const SPECIAL: [u32; 7] = [6, 5, 5, 5, 3, 2, 6];
 fn of_class(op: Op, class: Class) -> bool
     ensures { result ≡ eqb (class_code (class_at op.0)) (class_code class) }
 {
-    stands(op.0 as u32, class)
+    stands(op.0 as u32, class.into())
 }
 
 fn formed(op: Op, class: Class, df: Width) -> bool

@@ -1,12 +1,11 @@
--- `ops::stands` meets its contract.
-use mathlib.Core.Path.{◌∙◌}
-use Rattle.ops.proofs.Packed.{class-in, class-small, same-class}
+-- `ops::stands` meets its contract: the class is the byte's part below 32.
+use mathlib.Core.Path.{ap, ◌∙◌}
+use Prim.Native.Nat.{ℕ, ◌%◌}
+use lib.Dec.{eqb}
+use Rattle.ops.proofs.Packed.{class-part}
 use Rattle.ops.proofs.stands.Goals as goal
-
-pub class_of-requires : goal.class_of-requires
-class_of-requires c = rw c.byte_at.ensures (class-small c.args.k)
 
 pub returns : goal.returns
 returns c =
     let a = c.args in
-    rw (c.class_of.ensures, c.byte_at.ensures, class-in a.k) at (c.eq.ensures ∙ same-class c.class_of.result a.class)
+    ap (λ (n : ℕ). eqb n a.class) (ap (λ (b : ℕ). b % 32) c.byte_at.ensures ∙ class-part a.k)
