@@ -1,5 +1,5 @@
 // The forms that the entries of several classes have: which registers of the word stand in them, and what is 0. A class
-// that has no format gives B, whose code is 0.
+// that has no format gives B, whose code is 0. f is the number of its formats (`ops::has`).
 ghost use Rattle.std.specs.Prelude.{◌≡◌, cond, if◌then◌else◌, Err};
 ghost use Rattle.fields.specs.Fields.{bits, both};
 ghost use Rattle.isa.specs.Widths.{width_code};

@@ -2,7 +2,7 @@
 #![tactic(auto)]
 
 ghost use Rattle.std.specs.Prelude.{◌≡◌, ◌++◌};
-ghost use Rattle.isa.specs.Numbers.{number_in, read_said};
+ghost use Rattle.isa.specs.Numbers.{unread_number};
 ghost use Rattle.shown.specs.declared.Form.TheVariants as form;
 ghost use Rattle.text.specs.Text.{bytes, Room, Puts};
 ghost use Rattle.text.specs.Numerals.{decimal, hex};
@@ -66,31 +66,22 @@ fn put_shown(line: &mut [u8], at: usize, s: Shown) -> usize
     put_operands(line, first_at, s.a, s.b, s.c, s.d)
 }
 
-fn read_number(r: Result<Instr, Unread>) -> u32
-    ensures { result ≡ number_in (read_said r) }
-{
-    match r {
-        Err(u) => u8::from(u) as u32,
-        Ok(_) => 0,
-    }
-}
-
-fn put_reason(line: &mut [u8], at: usize, number: u32) -> usize
-    requires { Room line.old at (bytes "; " ++ decimal number) }
-    ensures { Puts line.old at (bytes "; " ++ decimal number) line.new result }
+fn put_reason(line: &mut [u8], at: usize, u: Unread) -> usize
+    requires { Room line.old at (bytes "; " ++ decimal (unread_number u)) }
+    ensures { Puts line.old at (bytes "; " ++ decimal (unread_number u)) line.new result }
 {
     let next = put_text(line, at, b"; ");
-    put_decimal(line, next, number)
+    put_decimal(line, next, u8::from(u) as u32)
 }
 
 fn put_read(line: &mut [u8], at: usize, read: Result<Instr, Unread>) -> usize
     requires { Room line.old at (listing.read_text read) }
     ensures { Puts line.old at (listing.read_text read) line.new result }
 {
-    let Ok(i) = read else {
-        return put_reason(line, at, read_number(read));
-    };
-    put_shown(line, at, shown_of(i))
+    match read {
+        Ok(i) => put_shown(line, at, shown_of(i)),
+        Err(u) => put_reason(line, at, u),
+    }
 }
 
 // A number in eight hex digits, and what stands behind it.

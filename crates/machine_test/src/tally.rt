@@ -15,6 +15,7 @@ pub struct Tally {
     reached: [u64; 32],
 }
 
+// By the number in the case's record.
 fn name(group: u8) -> &'static str {
     match group {
         0 => "step",

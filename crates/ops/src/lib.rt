@@ -232,7 +232,8 @@ fn format_bits(n: u64) -> u64
     }
 }
 
-// Whether a choice of formats, by its number, has a format.
+// Whether a choice of formats, by its number, has a format. No enum in place of the number, here and in the readers: any
+// number has an answer, and a type of seven would ask more of who has one.
 pub fn has(n: u64, df: Width) -> bool
     ensures { result ≡ formats.has (formats_of n) df }
 {

@@ -1,4 +1,4 @@
-// Each class of words, once the place of its operation is known.
+// Each class of words, once the place of its operation is known; f is the number of its formats (`ops::has`).
 ghost use Rattle.std.specs.Prelude.{◌≡◌};
 ghost use Rattle.ops.specs.declared.Class.TheVariants as class;
 ghost use Rattle.ops.specs.Packed.{formats_of};
