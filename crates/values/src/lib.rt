@@ -2,9 +2,9 @@
 // in each arm, so that the compiler makes one jump of it and keeps the words in machine registers.
 #![tactic(auto)]
 
+pub(crate) mod both;
 pub mod operands;
 pub mod others;
 pub mod quick;
 pub mod seldom;
 pub mod shuffles;
-pub(crate) mod words;

@@ -10,8 +10,8 @@ ghost use Rattle.entries.specs.Cut.{dest_of, source_of, third_of};
 ghost use Rattle.forms.specs.Forms.{count_of, fixed_of};
 ghost use Rattle.acts.specs.Act.{narrow_of, value_of, vreg};
 
+use crate::both::by_words;
 use crate::operands::{dest, inserted, last, scalar, source, spread};
-use crate::words::by_words;
 use entries::parts::{code_of, imm_of, source_of, third_of, width_of};
 use isa::{Count, Fixed, Width};
 use memory::Register;

@@ -7,8 +7,8 @@ ghost use Rattle.memory.specs.Value.{value, register};
 ghost use Rattle.entries.specs.Cut.{code_of, width_of, dest_of};
 ghost use Rattle.acts.specs.Act.{vector_of, vreg};
 
+use crate::both::by_words;
 use crate::operands::dest;
-use crate::words::by_words;
 use element::Reading::{Signed, Unsigned};
 use entries::parts::{code_of, width_of};
 use isa::Logic;

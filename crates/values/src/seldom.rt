@@ -10,7 +10,7 @@ ghost use Rattle.entries.specs.Cut.{code_of, width_of};
 ghost use Rattle.acts.specs.Act.{vector_of};
 ghost use Rattle.values.specs.Permuted.{permutes};
 
-use crate::words::by_words;
+use crate::both::by_words;
 use element::Reading::{Signed, Unsigned};
 use entries::parts::{code_of, width_of};
 use isa::{Pack, Width};

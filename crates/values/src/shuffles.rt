@@ -9,8 +9,8 @@ ghost use Rattle.vectors.specs.Register.{filled, whole};
 ghost use Rattle.entries.specs.Cut.{width_of, flag_of, dest_of, source_of, third_of, extended_of};
 ghost use Rattle.acts.specs.Act.{vreg};
 
+use crate::both::by_words;
 use crate::operands::{dest, source, third};
-use crate::words::by_words;
 use entries::parts::{flag_of, source_of, third_of, width_of};
 use isa::Vreg;
 use memory::Register;
