@@ -34,7 +34,7 @@ use Rattle.read_demands.proofs.Comes.{same-lent, limit-refuses, filled_at}
 
 -- ---- the rows
 
-not-accepted : (u : Refusal) → Err u ≡ Ok tt → ⊥
+not-accepted : (u : Refusal) → ◌≡◌ {A = Result ⊤ Refusal} (Err u) (Ok tt) → ⊥
 not-accepted u h = let z : ◌≡◌ {A = ℕ} 0 1 = cc in omega arith
 
 -- a row that does not apply, among others

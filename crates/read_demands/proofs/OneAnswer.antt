@@ -1,8 +1,13 @@
 -- Two answers that meet a promise are one: both are what the definition says. Assumes nothing.
-use mathlib.Core.Path.{◌≡◌, refl, sym, ◌∙◌}
+use mathlib.Core.Path.{◌≡◌, refl, sym, ap, ◌∙◌}
 use mathlib.Core.Bool.{Bool, true, false}
 use mathlib.Core.List.{List}
 use Prim.Native.Nat.{ℕ}
+use native.Mathlib.Omega.{arith}
+use Rattle.std.specs.Prelude.{Option, Some, None, is_none}
+use Rattle.state.specs.declared.control.Control.{Control}
+use Rattle.machine.specs.declared.run.Ended.{Ended}
+use Rattle.listed.specs.Run.{end_in}
 use Rattle.state.specs.Machine.{Machine}
 use Rattle.entry.specs.declared.MsaEnded.{MsaEnded}
 use Rattle.entry.specs.OneAnswer.{Same}
@@ -11,11 +16,17 @@ use Rattle.entry_read.specs.Entry.{ShortIs}
 use Rattle.demands.proofs.OneAnswer as machine
 use Rattle.read_demands.specs.OneAnswer.{OneListed, OneRead}
 
+same-end : (c : Control) (r r' : Option Ended) → is_none r ≡ is_none r' → end_in c r ≡ end_in c r' → r ≡ r'
+same-end c None None h e = refl
+same-end c (Some x) (Some y) h e = ap Some e
+same-end c None (Some y) h e = absurd (let z : ◌≡◌ {A = ℕ} 0 1 = cc in omega arith)
+same-end c (Some x) None h e = absurd (let z : ◌≡◌ {A = ℕ} 0 1 = cc in omega arith)
+
 pub one-listed : OneListed
 one-listed s r r' v v' g g' w w' l l' i j =
-    let short = i.short ∙ sym j.short in
-    let run = machine.one-run s.run r.ended r'.ended v v' g g' w w' i.ended j.ended in
-    (λ k. record { short = short k; ended = run.0 k }, run.1, run.2, run.3, i.list ∙ sym j.list)
+    let c = s.run.after.ctl in
+    let run = machine.one-run s.run (end_in c r) (end_in c r') v v' g g' w w' i.ended j.ended in
+    (same-end c r r' (i.short ∙ sym j.short) run.0, run.1, run.2, run.3, i.list ∙ sym j.list)
 
 one-short : (m : Machine) (b : List ℕ) (r r' : MsaEnded) (v v' g g' w w' c c' : List ℕ) → ShortIs m r v g w b c
     → ShortIs m r' v' g' w' b c'
