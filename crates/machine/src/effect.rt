@@ -38,7 +38,9 @@ fn pc_after(k: Mark, pc: u64) -> u64
     ensures { result ≡ pc_after k pc }
 {
     match k {
-        Mark::Clear | Mark::NotTaken => pc.wrapping_add(4),
+        // An arm each: with both in one the compiler makes a conditional move of it, and every step waits for the mark.
+        Mark::Clear => pc.wrapping_add(4),
+        Mark::NotTaken => pc.wrapping_add(4),
         Mark::Taken(t) => t,
     }
 }

@@ -9,7 +9,11 @@ use crate::board::Board;
 fn find(base: u64, len: usize, a: u64) -> Option<usize>
     ensures { result ≡ placed base len a }
 {
-    let d = a.checked_sub(base)?;
+    // Not by checked_sub: that costs the second engine's loads a conditional move.
+    if a < base {
+        return None;
+    }
+    let d = a - base;
     if len < 16 {
         return None;
     }
