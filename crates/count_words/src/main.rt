@@ -1,6 +1,5 @@
 // Counts the words of major opcode 011110 by what they read as. No class is told by bits 15..6, so one word stands for
-// the
-// 1,024 that differ from it there: 65,536 words are read, one for each value of bits 25..16 and 5..0.
+// the 1,024 that differ from it there: 65,536 words are read, one for each value of bits 25..16 and 5..0.
 #![tactic(auto)]
 
 use isa::{Instr, Unread};

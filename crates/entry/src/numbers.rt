@@ -2,7 +2,7 @@
 // stands behind a stop. It has no other way to say them.
 ghost use Rattle.std.specs.Prelude.{◌≡◌};
 ghost use Rattle.state.specs.Numbers.{stop_missing};
-ghost use Rattle.machine.specs.Numbers.{answer_number, reason_missing};
+ghost use Rattle.machine.specs.Numbers.{answer_number, reason_number, reason_missing};
 ghost use Rattle.entry.specs.Why.{stop_kind, answer_kind};
 
 use machine::run::Reason;
@@ -17,6 +17,12 @@ pub fn answer_number(a: Result<Result<(), Stop>, Refusal>) -> u8
         Ok(Ok(())) => 0,
         Ok(Err(s)) => u8::from(s),
     }
+}
+
+pub fn reason_number(e: Reason) -> u8
+    ensures { result ≡ reason_number e }
+{
+    e.into()
 }
 
 fn stop_missing(s: Stop) -> u64

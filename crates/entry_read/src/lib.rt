@@ -48,7 +48,7 @@ pub fn msa_run_read(
     };
     block::settle(0 < end.count, end.control, control);
     MsaEnded {
-        reason: u8::from(end.reason) as u32,
+        reason: numbers::reason_number(end.reason) as u32,
         count: end.count,
         missing: numbers::reason_missing(end.reason),
     }

@@ -8,5 +8,5 @@ returns c =
     let ran = settled in
     let read = ran in
     rw (← read.control_of-c.ensures, ← read.board_of-board.ensures)
-    (runs_to _ _ _ _ _ _ _ _ _ ran.run-end.ensures c.from.ensures c.reason_missing.ensures
+    (runs_to _ _ _ _ _ _ _ _ _ ran.run-end.ensures c.reason_number.ensures c.reason_missing.ensures
     settled.settle.ensures)

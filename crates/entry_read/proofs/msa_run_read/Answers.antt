@@ -10,5 +10,5 @@ returns-in_default c =
 pub returns : goal.returns
 returns c =
     rw (← c.control_of-c.ensures, ← c.board_of-board.ensures)
-    (ran-to _ _ _ _ _ _ _ c.in-Some.end _ _ c.in-Some.ensures c.from.ensures c.reason_missing.ensures
+    (ran-to _ _ _ _ _ _ _ c.in-Some.end _ _ c.in-Some.ensures c.reason_number.ensures c.reason_missing.ensures
     c.settle.ensures)
