@@ -6,8 +6,7 @@ use Rattle.isa.specs.declared.Instr.{Instr}
 use Rattle.isa.specs.declared.Unread.{Unread}
 use Rattle.plan.specs.declared.Plan.{Plan}
 use Rattle.plan.specs.declared.Plan.TheVariants as plan
-use Rattle.plan.specs.Ahead.{stop_in}
-use Rattle.plan.specs.Plan.{plan_of}
+use Rattle.plan.specs.Plan.{plan_of, stop_in}
 use Rattle.state.specs.declared.control.Control.{Control}
 use Rattle.state.specs.declared.stops.Stop.{Stop}
 use Rattle.state.specs.declared.stops.Stop.TheVariants as stop

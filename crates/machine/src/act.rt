@@ -8,7 +8,6 @@ ghost use Rattle.machine.specs.Step.{concluded, decided, StepIs};
 use crate::effect;
 use crate::step::Stepped;
 use isa::Instr;
-use plan::ahead::stop_in;
 use plan::{Plan, planned};
 use state::board::Board;
 use state::control::Control;
@@ -29,7 +28,7 @@ pub fn conclude(
 {
     effect::apply(p, board.work, vectors, generals, work);
     Stepped {
-        outcome: stop_in(p),
+        outcome: effect::outcome_of(p),
         control: effect::control_after(p, c),
     }
 }

@@ -2,12 +2,22 @@
 // any), and the control block brought forward.
 ghost use Rattle.std.specs.Prelude.{◌≡◌, ◌<◌, length};
 ghost use Rattle.plan.specs.There.{There};
+ghost use Rattle.machine.specs.Step.{outcome_of};
 ghost use Rattle.machine.specs.Effect.{with_general, vectors_after, generals_after, work_after, pc_after, forwarded, control_after};
 
 use isa::Greg;
 use memory::file::write_register;
 use plan::Plan;
+use plan::ahead::stop_in;
 use state::control::{Control, Mark};
+use state::stops::Stop;
+
+// How a step with this plan ends.
+pub fn outcome_of(p: Plan) -> Result<(), Stop>
+    ensures { result ≡ outcome_of p }
+{
+    stop_in(p)
+}
 
 // Writes general register r; a write to register 0 is dropped.
 pub fn write_general(generals: &mut [u8; 256], r: Greg, x: u64)

@@ -26,9 +26,9 @@ use Rattle.state.specs.Windows.{spot_of}
 use Rattle.words.proofs.Answers.{read-formed}
 use Rattle.words.specs.Formed.{Formed}
 use Rattle.plan.specs.declared.Plan.{Plan}
-use Rattle.plan.specs.Ahead.{stop_in, first, place_early, stop_ahead, Within}
+use Rattle.plan.specs.Ahead.{first, place_early, stop_ahead, Within}
 use Rattle.plan.specs.Numbers.{address}
-use Rattle.plan.specs.Plan.{plan_of, early, unless, kind_of, executed, accessed, loaded, stored, general_at}
+use Rattle.plan.specs.Plan.{plan_of, early, unless, kind_of, executed, accessed, loaded, stored, general_at, stop_in}
 
 -- 15 and 16 come before what an instruction's own plan names
 unless-stops : (e : Result ⊤ Stop) (q : Plan) → stop_in (unless e q) ≡ first e (stop_in q)

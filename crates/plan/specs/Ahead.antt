@@ -11,21 +11,9 @@ use Rattle.state.specs.declared.stops.Stop.TheVariants.{Unread, NoWindow, ReadOn
 use Rattle.state.specs.declared.windows.Spot.{Spot}
 use Rattle.state.specs.declared.windows.Spot.TheVariants.{Table, Work, Outside}
 use Rattle.state.specs.Windows.{spot_of}
-use Rattle.plan.specs.declared.Plan.{Plan}
-use Rattle.plan.specs.declared.Plan.TheVariants as plan
 use Rattle.state.specs.declared.stops.Stop.{Stop}
 use Rattle.plan.specs.Numbers.{address}
-use Rattle.plan.specs.Plan.{general_at, to_control, switched_early, branch_early}
-
--- the reason that a plan names, if any
-abbrev pub stop_in : Plan → Result ⊤ Stop
-stop_in (plan.Stop s) = Err s
-stop_in plan.Nothing = Ok tt
-stop_in (plan.Vector r v) = Ok tt
-stop_in (plan.General r x) = Ok tt
-stop_in (plan.Store a v) = Ok tt
-stop_in (plan.Csr x) = Ok tt
-stop_in (plan.Branch k) = Ok tt
+use Rattle.plan.specs.Plan.{general_at, to_control, switched_early, branch_early, stop_in}
 
 -- two reasons, if any: the first is told
 abbrev pub first : Result ⊤ Stop → Result ⊤ Stop → Result ⊤ Stop

@@ -172,3 +172,13 @@ unless (Err s) p = plan.Stop s
 
 unfoldable pub plan_of : Env → Machine → Instr → Plan
 plan_of e m i = unless (early (kind_of i) m.ctl.mark m.ctl.on) (executed e m i)
+
+-- the reason that a plan names, if any
+abbrev pub stop_in : Plan → Result ⊤ Stop
+stop_in (plan.Stop s) = Err s
+stop_in plan.Nothing = Ok tt
+stop_in (plan.Vector r v) = Ok tt
+stop_in (plan.General r x) = Ok tt
+stop_in (plan.Store a v) = Ok tt
+stop_in (plan.Csr x) = Ok tt
+stop_in (plan.Branch k) = Ok tt

@@ -1,7 +1,8 @@
 // What stops an instruction, by what its word says of stops: what its plan would name, and no plan is made.
 ghost use Rattle.std.specs.Prelude.{◌≡◌, length};
 ghost use Rattle.state.specs.Windows.{spot_of};
-ghost use Rattle.plan.specs.Ahead.{stop_in, table_early, place_early, stop_ahead, Within};
+ghost use Rattle.plan.specs.Plan.{stop_in};
+ghost use Rattle.plan.specs.Ahead.{table_early, place_early, stop_ahead, Within};
 
 use crate::address::address;
 use crate::early::{branch_early, switched_early};
