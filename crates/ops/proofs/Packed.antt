@@ -2,16 +2,18 @@
 use mathlib.Core.Path.{◌≡◌, refl, sym, ap, ◌∙◌}
 use mathlib.Core.Bool.{Bool, true, false, cond}
 use mathlib.Core.List.{List, [], ◌∷◌}
-use Prim.Native.Nat.{ℕ, zero, suc, ◌+◌, ◌*◌, ◌/◌, ◌%◌, ◌^◌, ◌<◌}
+use Prim.Native.Nat.{ℕ, zero, suc, ◌+◌, ◌*◌, ◌/◌, ◌%◌, ◌^◌, ◌<◌, ◌≤◌}
+use native.Mathlib.Decide.{dec_lt}
 use native.Mathlib.Omega.{arith}
-use borrow.Author.Tests.{eqb-true, ltb-true}
+use borrow.Author.Tests.{eqb-true, eqb-false, ltb-true}
 use lib.Dec.{eqb, ltb}
+use lib.ListN.{get_or-eq_default}
 use Rattle.isa.specs.declared.Width.{Width}
 use Rattle.ops.specs.declared.Class.{Class}
 use Rattle.ops.specs.declared.Class.TheVariants as class
 use Rattle.ops.specs.Formats.{Formats, bhwd, hwd, bhw, b, v, bare, hw, has}
 use Rattle.ops.specs.Table.{Row, table, row_at, class_at, formats_at}
-use Rattle.ops.specs.Packed.{class_code, class_of, formats_code, formats_of, byte_of, byte_at, eight, row_word}
+use Rattle.ops.specs.Packed.{classes, class_code, class_of, formats_code, formats_of, byte_of, byte_at, eight, row_word}
 use Rattle.ops.proofs.Find.{Others, among, none, rule}
 
 -- the rows that are not all reserved
@@ -141,6 +143,30 @@ fixed-formats k e =
     sym (formats-known (formats_at k)) ∙ ap formats_of (eqb-true (formats_code (formats_at k)) 6 t)
 
 -- ---- numbers that a match leaves over
+
+abbrev pub span : ℕ → ℕ → List ℕ
+span i zero = []
+span i (suc c) = i ∷ span (suc i) c
+
+among-span : (i c n : ℕ) → i ≤ n → n < i + c → among n (span i c) ≡ true
+among-span i zero n h l = absurd (omega arith)
+among-span i (suc c) n h l = go (eqb i n) refl (λ (q : suc i ≤ n). among-span (suc i) c n q (omega arith))
+  where
+    go : (t : Bool) → eqb i n ≡ t → (suc i ≤ n → among n (span (suc i) c) ≡ true)
+        → cond t true (among n (span (suc i) c)) ≡ true
+    go true e next = refl
+    go false e next = let d = eqb-false i n e in next (omega (arith, d))
+
+pub no-class : (n : ℕ) → Others n (Unit {0}) (span 1 24) → class_of n ≡ class.Reserved
+no-class zero h = refl
+no-class (suc n) h = go (dec_lt (suc n) 25)
+  where
+    go : Dec (suc n < 25) → class_of (suc n) ≡ class.Reserved
+    go (yes l) =
+        let f = (none (suc n) (span 1 24) (Unit {0}) h).1 in
+        let t = among-span 1 24 (suc n) (omega arith) (omega arith) in
+        absurd (let z : ◌≡◌ {A = ℕ} 0 1 = cc in omega arith)
+    go (no l) = let q : 25 ≤ suc n = omega arith in get_or-eq_default classes class.Reserved q
 
 pub no-form : (n : ℕ) (df : Width) → Others n (Unit {0}) (0 ∷ 1 ∷ 2 ∷ 3 ∷ 6 ∷ []) → has (formats_of n) df ≡ false
 no-form zero df h = absurd (h.0.0.0.0.1 refl)

@@ -2,7 +2,7 @@
 // words, and specs/Packed.antt what a byte says.
 #![tactic(auto)]
 
-ghost use Rattle.std.specs.Prelude.{◌≡◌, ◌<◌, ◌/◌, ◌%◌, ◌^◌, eqb};
+ghost use Rattle.std.specs.Prelude.{◌≡◌, ◌/◌, ◌%◌, ◌^◌, eqb};
 ghost use Rattle.isa.specs.declared.Width.{Width};
 ghost use Rattle.isa.specs.Widths.{width_code};
 ghost use Rattle.ops.specs.Formats as formats;
@@ -140,14 +140,11 @@ pub fn byte_beside(k: u32) -> u64
     (row_beside(k / 8) >> (k % 8 * 8)) % 256
 }
 
-// The class of a number, as a byte of the table holds it. No number is left over for a class of its own, so the number
-// is the enum's: a reader's match on the class is one jump by it.
+// The class of a number, as a byte of the table holds it; of a number that no byte holds, Reserved.
 pub fn class_of(n: u64) -> Class
-    requires { n < 25 }
     ensures { result ≡ class_of n }
 {
     match n {
-        0 => Class::Reserved,
         1 => Class::Three,
         2 => Class::Indexed,
         3 => Class::Imm5U,
@@ -172,7 +169,7 @@ pub fn class_of(n: u64) -> Class
         22 => Class::Scaled,
         23 => Class::LeftOut,
         24 => Class::Fixed,
-        _ => unreachable!(),
+        _ => Class::Reserved,
     }
 }
 

@@ -2,7 +2,7 @@
 use mathlib.Core.Path.{◌≡◌, sym, ap, ◌∙◌}
 use Prim.Native.Nat.{ℕ}
 use Rattle.isa.specs.Numbers.{read_said}
-use Rattle.ops.proofs.Packed.{class-in, class-small, formats-in}
+use Rattle.ops.proofs.Packed.{class-in, formats-in}
 use Rattle.ops.specs.Table.{row_at}
 use Rattle.reading.specs.Reading.{place_of, vacant, read_of}
 use Rattle.reading.proofs.read_word.Goals as goal
@@ -17,9 +17,6 @@ returns-then-k-eq512 c =
     let w = c.args.w in
     let e : place_of w ≡ 512 = sym c.place_of-k.ensures ∙ c.if-k-eq512.true in
     record { said = ap read_said (c.vacant.ensures ∙ past-vacant w e) }
-
-pub class_of-requires : goal.class_of-requires
-class_of-requires c = rw c.byte_at-byte.ensures (class-small _)
 
 pub returns : goal.returns
 unfolding read_of

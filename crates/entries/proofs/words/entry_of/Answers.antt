@@ -1,6 +1,6 @@
 -- `entries::words::entry_of` meets its contract.
 use Rattle.std.proofs.Common.{◌≡◌, sym, ◌∙◌}
-use Rattle.ops.proofs.Packed.{class-in, class-small, formats-in}
+use Rattle.ops.proofs.Packed.{class-in, formats-in}
 use Rattle.ops.specs.Table.{row_at}
 use Rattle.reading.specs.Reading.{place_of, read_of}
 use Rattle.entries.proofs.words.entry_of.Goals as goal
@@ -12,9 +12,6 @@ returns-then-k-eq512 c =
     let e : place_of c.args.w ≡ 512 =
     sym c.place_of-k.ensures ∙ c.if-k-eq512.true in
     rw e c.vacant.ensures
-
-pub class_of-requires : goal.class_of-requires
-class_of-requires c = rw c.byte_at-byte.ensures (class-small _)
 
 pub returns : goal.returns
 unfolding read_of
