@@ -83,7 +83,13 @@ pub fn turns_off(
                 control,
             };
         }
-        control = s.control;
+        let next = s.control;
+        control = Control {
+            pc: next.pc,
+            mark: next.mark,
+            csr: next.csr,
+            on: next.on,
+        };
     }
     Ended {
         reason: Reason::Spent,

@@ -18,8 +18,10 @@ fn common(w: Width, t: u64) -> Option<u64>
         (λ k. (k < bits w) × ((i : ℕ) → i < 64 / bits w → element (bits w) t i % bits w ≡ k)) }
 {
     let e = low(w, t);
+    // Before the test: behind it, the width is asked for once more.
+    let k = amount(w, e);
     if spread_word(w, e) == t {
-        Some(amount(w, e))
+        Some(k)
     } else {
         None
     }
