@@ -129,14 +129,14 @@ same_address m df offset rs =
 
 module _ (e : Env) (m : Machine) (sized : Sized e m) where
   -- the facts of the rows
-  abbrev None? : Memory → ℕ → Type 0
-  None? o a = Not (InTable e a) × Not (InWork e m a)
+  abbrev Nowhere? : Memory → ℕ → Type 0
+  Nowhere? o a = Not (InTable e a) × Not (InWork e m a)
 
   abbrev ReadOnly? : Memory → ℕ → Type 0
   ReadOnly? o a = (o ≡ St) × InTable e a
 
   abbrev risks : Instr → List Row
-  risks i = row 17 (Accesses m None? i) ∷ row 18 (Accesses m ReadOnly? i) ∷ row 19 (SetsCsr m Arms i) ∷ []
+  risks i = row 17 (Accesses m Nowhere? i) ∷ row 18 (Accesses m ReadOnly? i) ∷ row 19 (SetsCsr m Arms i) ∷ []
 
   -- the two windows, as the machine tests them
   abbrev holds_all : ℕ → ℕ → ℕ → Bool
@@ -170,10 +170,10 @@ module _ (e : Env) (m : Machine) (sized : Sized e m) where
     no-csr h = elim h [ ]
 
     -- a load that one of the windows holds
-    load-passes : memory_at k.0 ≡ Ld → Not (None? (memory_at k.0) a) → First (risks access) 0
+    load-passes : memory_at k.0 ≡ Ld → Not (Nowhere? (memory_at k.0) a) → First (risks access) 0
     load-passes p n =
         let not-store : Not (memory_at k.0 ≡ St) = λ q. let l : Ld ≡ St = sym p ∙ q in differ (cc) in
-        passed (λ h. n (accessing None? h))
+        passed (λ h. n (accessing Nowhere? h))
         (passed (λ h. not-store (accessing ReadOnly? h).0) (passed no-csr none))
 
     load-first : memory_at k.0 ≡ Ld → (z : ℕ) (t w : Bool) → Reflects t (InTable e a) → Reflects w (InWork e m a)
@@ -184,7 +184,7 @@ module _ (e : Env) (m : Machine) (sized : Sized e m) where
         e.board.order df wd e.table m.work)))
     load-first p z true w x y = load-passes p (λ h. h.0 (x.yes refl))
     load-first p z false true x y = load-passes p (λ h. h.1 (y.yes refl))
-    load-first p z false false x y = given (accesses None? (x.no refl, y.no refl))
+    load-first p z false false x y = given (accesses Nowhere? (x.no refl, y.no refl))
 
     store-first : memory_at k.0 ≡ St → (v z : ℕ) (t w : Bool) → Reflects t (InTable e a) → Reflects w (InWork e m a)
         → First (risks access)
@@ -193,11 +193,11 @@ module _ (e : Env) (m : Machine) (sized : Sized e m) where
         (or_else z (cond t (option.Some (a - e.board.table)) None) (cond w (option.Some (a - e.board.work)) None))
         e.board.order df a v)))
     store-first p v z true w x y =
-        passed (λ h. (accessing None? h).0 (x.yes refl)) (given (accesses ReadOnly? (p, x.yes refl)))
+        passed (λ h. (accessing Nowhere? h).0 (x.yes refl)) (given (accesses ReadOnly? (p, x.yes refl)))
     store-first p v z false true x y =
-        passed (λ h. (accessing None? h).1 (y.yes refl))
+        passed (λ h. (accessing Nowhere? h).1 (y.yes refl))
         (passed (λ h. x.no refl (accessing ReadOnly? h).1) (passed no-csr none))
-    store-first p v z false false x y = given (accesses None? (x.no refl, y.no refl))
+    store-first p v z false false x y = given (accesses Nowhere? (x.no refl, y.no refl))
 
     access-first : (o : Memory) → memory_at k.0 ≡ o
         → First (risks access)
@@ -229,14 +229,14 @@ module _ (e : Env) (m : Machine) (sized : Sized e m) where
         (outcome_number
         (outcome_of (cond one (cond trap (plan.Stop (Trap (arming (masked x)))) (plan.Csr (masked x))) plan.Nothing)))
     control-first true true a b =
-        passed (no_access None?) (passed (no_access ReadOnly?) (given (sets (a.yes refl, b.yes refl))))
+        passed (no_access Nowhere?) (passed (no_access ReadOnly?) (given (sets (a.yes refl, b.yes refl))))
     control-first true false a b =
-        passed (no_access None?) (passed (no_access ReadOnly?) (passed (λ h. b.no refl (set h).1) none))
+        passed (no_access Nowhere?) (passed (no_access ReadOnly?) (passed (λ h. b.no refl (set h).1) none))
     control-first false trap a b =
-        passed (no_access None?) (passed (no_access ReadOnly?) (passed (λ h. a.no refl (set h).0) none))
+        passed (no_access Nowhere?) (passed (no_access ReadOnly?) (passed (λ h. a.no refl (set h).0) none))
 
   -- an instruction that none of them concerns
-  quiet : {i : Instr} → Not (Accesses m None? i) → Not (Accesses m ReadOnly? i) → Not (SetsCsr m Arms i)
+  quiet : {i : Instr} → Not (Accesses m Nowhere? i) → Not (Accesses m ReadOnly? i) → Not (SetsCsr m Arms i)
       → First (risks i) 0
   quiet n r c = passed n (passed r (passed c none))
 
