@@ -12,7 +12,7 @@
  * that is lent for writing must overlap no other. The texts at the end are of this header
  * alone, not of the archive.
  *
- * Below its caller's frame a step or a run takes 577 bytes of stack, msa_why 208 and
+ * Below its caller's frame a step or a run takes 480 bytes of stack, msa_why 120 and
  * msa_budget 8, the return address included, with no recursion. That is measured, not
  * proved: docs/TRUST.md says how, and `host/build stack` does it again.
  */
